@@ -1,0 +1,10 @@
+pub mod Elementary
+pub mod Integers
+pub mod Expression
+pub mod NormalForm
+pub mod Soundness
+pub mod Solver
+pub mod Reify
+pub mod Series
+pub mod Degree
+mod Examples

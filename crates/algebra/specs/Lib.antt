@@ -1,0 +1,5 @@
+pub mod Ring
+pub mod Field
+pub mod Series
+pub mod Divisibility
+pub mod Polynomials
