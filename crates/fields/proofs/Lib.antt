@@ -5,3 +5,5 @@ pub mod Represented
 pub mod Among
 pub mod LawfulResidues
 pub mod Filling
+pub mod Below
+pub mod LawfulNine
