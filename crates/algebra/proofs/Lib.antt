@@ -7,4 +7,7 @@ pub mod Solver
 pub mod Reify
 pub mod Series
 pub mod Degree
+pub mod Regular
+pub mod PolynomialRing
+pub mod Size
 mod Examples
