@@ -10,4 +10,6 @@ pub mod Degree
 pub mod Regular
 pub mod PolynomialRing
 pub mod Size
+pub mod Derivative
+pub mod Squarefree
 mod Examples
