@@ -3,7 +3,7 @@
 -- as a constant and a multiple of the unknown.
 use mathlib.Core.Path.{_≡_, refl, sym, _∙_, ap, ap₂, fun-ext}
 use mathlib.Core.HLevel.{collapsible→set}
-use Prim.Native.Nat.{ℕ, zero, suc, _≤_, _<_}
+use Prim.Native.Nat.{ℕ, zero, suc}
 use native.Mathlib.Decide.{decLt}
 use native.Mathlib.Omega.{arith}
 use Rattle.algebra.specs.Ring.{Ops, Laws, sub}
@@ -17,7 +17,7 @@ use Rattle.algebra.proofs.Degree as D
 
 module _ {K : Type 0} {o : Ops K} (F : Field o) {P : Type 0} {p : Ops P} (H : Polynomials o p) where
   open Ops p using (add as _+_, mul as _·_, neg, nil, unit)
-  open Polynomials H using (coefficient, same, size, ends, make, made, made-ends, add-is, mul-is, neg-is, nil-is, unit-is)
+  open Polynomials H using (coefficient, same, ends, make, made, made-ends, add-is, mul-is, neg-is, nil-is, unit-is)
 
   infixl 75 _+_
   infixl 80 _·_
@@ -27,7 +27,7 @@ module _ {K : Type 0} {o : Ops K} (F : Field o) {P : Type 0} {p : Ops P} (H : Po
   abbrev SL : Laws (series o)
   SL = S.series-laws L
 
-  open Ops (series o) using (add as _⊞_, mul as _⊠_, neg as opposite)
+  open Ops (series o) using (add as _⊞_, mul as _⊠_)
 
   infixl 75 _⊞_
   infixl 80 _⊠_

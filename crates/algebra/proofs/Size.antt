@@ -1,24 +1,24 @@
 -- The sizes of polynomials: of sums and products, of divisors, of units. So there are no zero divisors, what is not 0 can
 -- be cancelled, and equality is decided.
-use mathlib.Core.Path.{_≡_, refl, sym, _∙_, ap, subst}
+use mathlib.Core.Path.{_≡_, refl, sym, _∙_, ap}
 use mathlib.Core.Logic.{_≢_}
 use mathlib.Core.List.{[], _∷_}
 use Prim.Native.Nat.{ℕ, zero, suc, pred, _≤_, _<_, _+_ as _+ᴺ_}
-use native.Mathlib.Decide.{ℕ-discrete, decLe, decLt}
+use native.Mathlib.Decide.{ℕ-discrete, decLt}
 use native.Mathlib.Omega.{arith}
 use Rattle.algebra.specs.Ring.{Ops, Laws, sub, pow}
 use Rattle.algebra.specs.Field.{Field}
-use Rattle.algebra.specs.Series.{series, Below, Degree}
+use Rattle.algebra.specs.Series.{Below, Degree}
 use Rattle.algebra.specs.Divisibility.{Regular, Divides}
-use Rattle.algebra.specs.Polynomials.{Polynomials, constant, x, tail, leading}
+use Rattle.algebra.specs.Polynomials.{Polynomials, constant, x, tail}
 use Rattle.algebra.proofs.Elementary as R
 use Rattle.algebra.proofs.Degree as D
-use Rattle.algebra.proofs.Reify.{by-ring, by-facts, _⋆_, terms}
+use Rattle.algebra.proofs.Reify.{by-facts, _⋆_, terms}
 use Rattle.algebra.proofs.PolynomialRing as A
 
 module _ {K : Type 0} {o : Ops K} (F : Field o) {P : Type 0} {p : Ops P} (H : Polynomials o p) where
   open Ops p using (add as _+_, mul as _·_, neg, nil, unit)
-  open Polynomials H using (coefficient, same, size, ends, top, add-is, mul-is, neg-is, nil-is, unit-is)
+  open Polynomials H using (coefficient, same, size, ends, top, add-is, mul-is, neg-is, nil-is)
 
   infixl 75 _+_ _-_
   infixl 80 _·_
