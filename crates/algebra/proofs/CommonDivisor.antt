@@ -18,10 +18,9 @@ use Rattle.algebra.proofs.Monic as M
 use Rattle.algebra.proofs.Division as D
 
 module _ {K : Type 0} {o : Ops K} (F : Field o) {P : Type 0} {p : Ops P} (H : Polynomials o p) where
-  open Ops p using (add as _+_, mul as _·_, nil, unit)
+  open Ops p using (mul as _·_, nil, unit)
   open Polynomials H using (size)
 
-  infixl 75 _+_
   infixl 80 _·_
   abbrev L : Laws p
   L = A.polynomial-laws F H

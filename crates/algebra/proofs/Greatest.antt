@@ -1,4 +1,5 @@
--- Greatest common divisors in a commutative ring, where there are: what they do for a row follows from what they do for two.
+-- Greatest common divisors in any commutative ring, where one is given: every common divisor divides it, a unit may be
+-- multiplied to it, and those of longer rows come from those of two.
 use mathlib.Core.Path.{_≡_, refl, sym, _∙_, ap, subst}
 use mathlib.Core.List.{List, [], _∷_}
 use Prim.Native.Nat.{ℕ, zero, suc}

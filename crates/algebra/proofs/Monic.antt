@@ -145,13 +145,4 @@ module _ {K : Type 0} {o : Ops K} (F : Field o) {P : Type 0} {p : Ops P} (H : Po
 
   pub monic-of-size : (a : P) → a ≢ nil → size (monic-of a) ≡ size a
   monic-of-size a some =
-      omega (
-        arith,
-        ap size (monic-of-back a some),
-        Z.size-mul-some F H (constant H (leading H a)) (monic-of a) (Z.some-size F H (constant H (leading H a)) (omega (arith, one)))
-            (monic-some (monic-of a) (monic-of-monic a some)),
-        one,
-      )
-    where
-      one : size (constant H (leading H a)) ≡ 1
-      one = Z.size-constant F H (leading H a) (leading-some a some)
+      sym (ap size (monic-of-back a some) ∙ Z.size-constant-mul F H (leading H a) (monic-of a) (leading-some a some))

@@ -130,6 +130,21 @@ module _ {K : Type 0} {o : Ops K} (F : Field o) {P : Type 0} {p : Ops P} (H : Po
   size-mul-most a b la lb =
       below-size (a · b) (D.below-same F (sym (mul-is a b)) (D.mul-below F (size-below a la) (size-below b lb)))
 
+  pub size-constant-mul : (c : K) (a : P) → c ≢ o .nil → size (constant H c · a) ≡ size a
+  size-constant-mul c a some =
+      elim (ℕ-discrete (size a) 0) [
+        | yes e ↦ ap size (ap (λ b. constant H c · b) (size-none a e) ∙ R.mul-nil p L (constant H c)) ∙ size-nil ∙ sym e
+        | no l ↦ omega (arith, size-mul {m = 0} {n = pred (size a)} (constant H c) a (size-constant c some) (omega arith))
+      ]
+
+  pub size-twice : (a : P) → size (a + a) ≡ size a
+  size-twice a =
+      ap size (twice (constant H (o .unit)) (A.constant-unit F H)
+      ∙ ap (λ c. c · a) (A.constant-add F H (o .unit) (o .unit))) ∙ size-constant-mul (o .add (o .unit) (o .unit)) a (F .two)
+    where
+      twice : (c : P) → c ≡ unit → a + a ≡ (c + c) · a
+      twice c e = by-facts L (a ∷ c ∷ []) (neg (a + a) ⋆ e ∷ []) (search terms depth 60 fits 100000) refl
+
   -- the highest coefficient of a product
   pub mul-top : {m n : ℕ} (a b : P) → size a ≤ suc m → size b ≤ suc n
       → coefficient (a · b) (m +ᴺ n) ≡ o .mul (coefficient a m) (coefficient b n)
