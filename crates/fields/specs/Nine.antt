@@ -1,5 +1,7 @@
 -- The field of nine elements: code a + 3·b stands for a + b·i, with a and b modulo 3 and i² = 2.
+use mathlib.Core.List.{List, []}
 use Prim.Native.Nat.{ℕ, _+_, _*_, _/_, _%_}
+use lib.ListN.{getD}
 use Rattle.fields.specs.Arithmetic.{Arithmetic}
 use Rattle.fields.specs.Residues.{only, among}
 
@@ -28,3 +30,7 @@ nine =
       minus = λ x. only 9 x (gaussian (2 * real x) (2 * imaginary x));
       inverse = λ x. only 9 x (gaussian (real x * norm-of x) (2 * imaginary x * norm-of x));
     }
+
+-- what a table of nine by nine has for two codes, and 0 for other numbers
+unfoldable pub entry-of : List (List ℕ) → ℕ → ℕ → ℕ
+entry-of table a b = among 9 a b (getD (getD table a []) b 0)

@@ -2,6 +2,8 @@
 pub use field::Field;
 pub use nine::Nine;
 pub use nine::NineField;
+pub use pairs::Pairs;
+pub use pairs::PairsField;
 pub use refusal::FieldRefusal;
 pub use refusal::FieldRefusalDisplay;
 pub use residues::Residues;
@@ -9,5 +11,6 @@ pub use residues::ResiduesField;
 
 pub mod field;
 pub mod nine;
+pub mod pairs;
 pub mod refusal;
 pub mod residues;

@@ -1,6 +1,7 @@
 // The field of nine elements, by its two tables.
+ghost use mathlib.Core.Path.{_≡_};
 ghost use Rattle.fields.specs.Lawful.{Lawful};
-ghost use Rattle.fields.specs.Nine.{nine};
+ghost use Rattle.fields.specs.Nine.{nine, entry-of};
 use crate::field::Field;
 
 // Code a + 3·b stands for a + b·i, with a and b modulo 3 and i² = 2.
@@ -48,11 +49,11 @@ pub impl Field for Nine as NineField {
     }
 
     fn sum(&self, a: u32, b: u32) -> u32 {
-        if a < 9 && b < 9 { SUMS[a as usize][b as usize] as u32 } else { 0 }
+        entry(&SUMS, a, b)
     }
 
     fn product(&self, a: u32, b: u32) -> u32 {
-        if a < 9 && b < 9 { PRODUCTS[a as usize][b as usize] as u32 } else { 0 }
+        entry(&PRODUCTS, a, b)
     }
 
     // −1 has the code 2.
@@ -66,4 +67,11 @@ pub impl Field for Nine as NineField {
         let cube = self.product(square, a);
         self.product(self.product(cube, cube), a)
     }
+}
+
+// What the table has for two codes, and 0 for other numbers.
+fn entry(table: &[[u8; 9]; 9], a: u32, b: u32) -> u32
+    ensures { λ r. ⌜ r ≡ entry-of (now (table .entry)) a b ⌝ }
+{
+    if a < 9 && b < 9 { table[a as usize][b as usize] as u32 } else { 0 }
 }
