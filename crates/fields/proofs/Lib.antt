@@ -7,3 +7,5 @@ pub mod LawfulResidues
 pub mod Filling
 pub mod Below
 pub mod LawfulNine
+pub mod Squares
+pub mod LawfulPairs

@@ -16,11 +16,11 @@ abbrev pub join : ℕ → ℕ → ℕ → ℕ
 join q a b = among q a b (a + q * b)
 
 module _ (K : Arithmetic) (q r : ℕ) where
-  -- (a + b·t)·(a − b·t) = a² − r·b², for the code a + q·b
+  -- (a + b·t)·(a − b·t) = a² − b²·r, for the code a + q·b
   abbrev pub norm-below : ℕ → ℕ
-  norm-below x = K .plus (K .times (x % q) (x % q)) (K .minus (K .times r (K .times (x / q) (x / q))))
+  norm-below x = K .plus (K .times (x % q) (x % q)) (K .minus (K .times (K .times (x / q) (x / q)) r))
 
-  -- The inverse of a + b·t is (a − b·t)/(a² − r·b²).
+  -- The inverse of a + b·t is (a − b·t)/(a² − b²·r).
   abbrev pub pairs : Arithmetic
   pairs =
       record {
@@ -28,7 +28,7 @@ module _ (K : Arithmetic) (q r : ℕ) where
         plus = λ x y. among (q * q) x y (join q (K .plus (x % q) (y % q)) (K .plus (x / q) (y / q)));
         times = λ x y.
             among (q * q) x y
-            (join q (K .plus (K .times (x % q) (y % q)) (K .times r (K .times (x / q) (y / q))))
+            (join q (K .plus (K .times (x % q) (y % q)) (K .times (K .times (x / q) (y / q)) r))
             (K .plus (K .times (x % q) (y / q)) (K .times (x / q) (y % q))));
         minus = λ x. only (q * q) x (join q (K .minus (x % q)) (K .minus (x / q)));
         inverse = λ x.

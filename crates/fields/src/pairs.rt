@@ -62,7 +62,7 @@ pub impl<F: Field> Field for Pairs<F> as PairsField {
             return 0;
         }
         let square = self.below.product(a / q, b / q);
-        let x = self.below.sum(self.below.product(a % q, b % q), self.below.product(self.r, square));
+        let x = self.below.sum(self.below.product(a % q, b % q), self.below.product(square, self.r));
         let y = self.below.sum(self.below.product(a % q, b / q), self.below.product(a / q, b % q));
         joined(q, x, y)
     }
@@ -83,7 +83,7 @@ pub impl<F: Field> Field for Pairs<F> as PairsField {
         let square = self.below.product(a / q, a / q);
         let norm = self.below.sum(
             self.below.product(a % q, a % q),
-            self.below.negative(self.below.product(self.r, square)),
+            self.below.negative(self.below.product(square, self.r)),
         );
         let over = self.below.inverse(norm);
         let x = self.below.product(a % q, over);
