@@ -1,0 +1,72 @@
+-- Long division of polynomials is division with remainder.
+use mathlib.Core.Path.{_≡_, refl, sym, _∙_, ap, ap₂}
+use mathlib.Core.Logic.{_≢_}
+use mathlib.Core.List.{List, [], _∷_}
+use Prim.Native.Nat.{ℕ, zero, suc, _≤_, _<_}
+use native.Mathlib.Omega.{arith}
+use lib.ListN.{length, getD}
+use Rattle.algebra.specs.Ring.{Ops, Laws, sub}
+use Rattle.algebra.proofs.Reify.{by-ring, terms}
+use Rattle.fields.specs.Arithmetic.{Arithmetic}
+use Rattle.fields.specs.Lawful.{Abelian, Lawful}
+use Rattle.fields.proofs.Codes.{Code, codes, codes-laws, zero-code}
+use Rattle.polynomials.specs.Polynomial.{Polynomial, trim, add, scale, negate, subtract, multiply, divide, sum, negative, difference, product, quotient, remainder}
+use Rattle.polynomials.specs.Proper.{Proper, Listed}
+use Rattle.polynomials.proofs.Laws.{zero-plus}
+use Rattle.polynomials.proofs.Coefficients.{Codes, trim-at, cons-codes, add-at, multiply-codes, multiply-cons, multiply-same}
+use Rattle.polynomials.proofs.Divisions.{times-in, left-over, left-over-at, remainder-codes, remainder-below}
+use Rattle.polynomials.proofs.Listed.{quotient-proper, remainder-proper, product-proper, polynomials}
+use Rattle.polynomials.proofs.Presentation.{same-lists}
+
+-- y·d is taken from the remainder s and added to the multiple m
+carried : {C : Type 0} {o : Ops C} → Laws o → (y m s : C) → o .add m s ≡ o .add (o .add y m) (o .add s (o .neg y))
+carried T y m s = by-ring T (y ∷ m ∷ s ∷ []) (search terms depth 60 fits 100000) refl
+
+module _ (K : Arithmetic) (L : Lawful K) where
+  open Arithmetic K using (size, plus, times, minus)
+
+  carry : (y m s : ℕ) → y < size → m < size → s < size → plus m s ≡ plus (plus y m) (plus s (minus y))
+  unfolding codes
+  carry y m s hy hm hs = ap (λ (c : Code size). c .0) (carried (codes-laws K L) (y, hy) (m, hm) (s, hs))
+
+  -- a + x·p from p = m + r
+  shifted-sum : (a : ℕ) (p m r : Polynomial) → a < size → ((k : ℕ) → getD p k 0 ≡ plus (getD m k 0) (getD r k 0))
+      → (k : ℕ) → getD (a ∷ p) k 0 ≡ plus (getD (0 ∷ m) k 0) (getD (a ∷ r) k 0)
+  shifted-sum a p m r h e zero = sym (zero-plus K L a h)
+  shifted-sum a p m r h e (suc k) = e k
+
+  -- before the quotient is trimmed
+  divided-at : (d p : Polynomial) → Codes K L p → (k : ℕ)
+      → getD p k 0 ≡ plus (getD (multiply K (divide K p d .quotient) d) k 0) (getD (divide K p d .remainder) k 0)
+  divided-at d [] h k = sym (zero-plus K L 0 (zero-code K L))
+  divided-at d (a ∷ p) h k =
+      let r : Polynomial = divide K p d .remainder in
+      let m : Polynomial = multiply K (divide K p d .quotient) d in
+      let s : Polynomial = a ∷ r in
+      let c : ℕ = times-in K L d s in
+      let hs : Codes K L s = cons-codes K L a r (h 0) (remainder-codes K L d p (λ i. h (suc i))) in
+      let hm : Codes K L (0 ∷ m) = cons-codes K L 0 m (zero-code K L) (multiply-codes K L (divide K p d .quotient) d) in
+      shifted-sum a p m r (h 0) (divided-at d p (λ i. h (suc i))) k
+      ∙ carry (times c (getD d k 0)) (getD (0 ∷ m) k 0) (getD s k 0) (L .products .answers-code c (getD d k 0)) (hm k) (hs k)
+      ∙ sym (ap₂ plus (multiply-cons K L c (divide K p d .quotient) d k) (left-over-at K L d s hs k))
+
+  abbrev pub quotient-of : Listed K → Listed K → Listed K
+  quotient-of a d = (quotient K (a .0) (d .0), quotient-proper K L (a .0) (d .0))
+
+  abbrev pub remainder-of : Listed K → Listed K → Listed K
+  remainder-of a d = (remainder K (a .0) (d .0), remainder-proper K L (a .1) (d .0))
+
+  abbrev P : Ops (Listed K)
+  P = polynomials K L
+
+  pub division : (a d : Listed K) → a ≡ P .add (P .mul (quotient-of a d) d) (remainder-of a d)
+  unfolding polynomials sum product quotient remainder
+  division a d =
+      let q : Polynomial = divide K (a .0) (d .0) .quotient in
+      let r : Polynomial = divide K (a .0) (d .0) .remainder in
+      let m : Polynomial = multiply K (trim q) (d .0) in
+      same-lists K a (P .add (P .mul (quotient-of a d) d) (remainder-of a d)) λ k.
+      divided-at (d .0) (a .0) (a .1 .codes) k
+      ∙ ap (λ x. plus x (getD r k 0)) (sym (trim-at m k ∙ multiply-same K L (trim q) q (d .0) (d .0) (trim-at q) (λ k. refl) k))
+      ∙ sym (trim-at (add K (trim m) r) k
+      ∙ add-at K L (trim m) r (P .mul (quotient-of a d) d .1 .codes) (remainder-of a d .1 .codes) k)
