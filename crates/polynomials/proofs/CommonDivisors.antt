@@ -7,15 +7,16 @@ use native.Mathlib.Omega.{arith}
 use lib.ListN.{length, getD}
 use Rattle.algebra.specs.Ring.{Ops, Laws, sub}
 use Rattle.algebra.specs.Divisibility.{Divides}
+use Rattle.algebra.proofs.Elementary as R
 use Rattle.algebra.proofs.Reify.{by-ring, by-facts, _⋆_, terms}
 use Rattle.fields.specs.Arithmetic.{Arithmetic}
 use Rattle.fields.specs.Lawful.{Abelian, Lawful}
 use Rattle.polynomials.specs.Polynomial.{Polynomial, trim, add, negate, subtract, sum, negative, difference, product, quotient, remainder, Common, step-back, euclid}
 use Rattle.polynomials.specs.Proper.{Proper, Listed}
 use Rattle.polynomials.proofs.Coefficients.{trim-at, trim-equal, add-at, negate-codes, trim-codes}
-use Rattle.polynomials.proofs.Listed.{listed-path, none-proper, one-proper, sum-proper, difference-proper, product-proper, remainder-proper, polynomials}
+use Rattle.polynomials.proofs.Listed.{listed-path, nil-list, none-proper, one-proper, sum-proper, difference-proper, product-proper, remainder-proper, polynomials}
 use Rattle.polynomials.proofs.Presentation.{same-lists, list-laws}
-use Rattle.polynomials.proofs.Remainders.{quotient-of, remainder-of, division}
+use Rattle.polynomials.proofs.Remainders.{quotient-of, remainder-of, division, remainder-less}
 
 module _ {C : Type 0} {o : Ops C} (T : Laws o) where
   infixl 75 _+_
@@ -92,3 +93,22 @@ module _ (K : Arithmetic) (L : Lawful K) where
   euclid-bezout (suc n) a (b₀ ∷ b) ha hb =
       let r : Polynomial = remainder K a (b₀ ∷ b) in
       stepped (a, ha) (b₀ ∷ b, hb) (euclid K n (b₀ ∷ b) r) (euclid-bezout n (b₀ ∷ b) r hb (remainder-proper K L ha (b₀ ∷ b)))
+
+  -- each step shortens b
+  pub euclid-divides : (n : ℕ) (a b : Polynomial) (ha : Proper K a) (hb : Proper K b) (hg : Proper K (euclid K n a b .divisor))
+      → length b < n
+      → Divides P (euclid K n a b .divisor, hg) (a, ha) × Divides P (euclid K n a b .divisor, hg) (b, hb)
+  unfolding euclid
+  euclid-divides zero a b ha hb hg l = absurd (omega arith)
+  euclid-divides (suc n) a [] ha hb hg l =
+      let T : Laws P = list-laws K L in
+      (
+        (P .unit, listed-path refl ∙ sym (T .mul-unit (a, hg))),
+        (P .nil, listed-path (sym (nil-list K L)) ∙ sym (R.mul-nil P T (a, hg))),
+      )
+  euclid-divides (suc n) a (b₀ ∷ b) ha hb hg l =
+      let B : Listed K = (b₀ ∷ b, hb) in
+      let r : Listed K = remainder-of K L (a, ha) B in
+      let less : length (r .0) < length (B .0) = remainder-less K L (a, ha) B (omega arith) in
+      let ih = euclid-divides n (b₀ ∷ b) (r .0) hb (r .1) hg (omega arith) in
+      (divides-whole (list-laws K L) (division K L (a, ha) B) (ih .0) (ih .1), ih .0)

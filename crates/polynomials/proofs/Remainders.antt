@@ -2,7 +2,7 @@
 use mathlib.Core.Path.{_≡_, refl, sym, _∙_, ap, ap₂}
 use mathlib.Core.Logic.{_≢_}
 use mathlib.Core.List.{List, [], _∷_}
-use Prim.Native.Nat.{ℕ, zero, suc, _≤_, _<_}
+use Prim.Native.Nat.{ℕ, zero, suc, pred, _≤_, _<_}
 use native.Mathlib.Omega.{arith}
 use lib.ListN.{length, getD}
 use Rattle.algebra.specs.Ring.{Ops, Laws, sub}
@@ -70,3 +70,9 @@ module _ (K : Arithmetic) (L : Lawful K) where
       ∙ ap (λ x. plus x (getD r k 0)) (sym (trim-at m k ∙ multiply-same K L (trim q) q (d .0) (d .0) (trim-at q) (λ k. refl) k))
       ∙ sym (trim-at (add K (trim m) r) k
       ∙ add-at K L (trim m) r (P .mul (quotient-of a d) d .1 .codes) (remainder-of a d .1 .codes) k)
+
+  pub remainder-less : (a d : Listed K) → 0 < length (d .0) → length (remainder K (a .0) (d .0)) < length (d .0)
+  unfolding remainder
+  remainder-less a d some =
+      let n : ℕ = pred (length (d .0)) in
+      omega (arith, remainder-below K L (d .0) (d .1 .codes) n (omega arith) (d .1 .trimmed) (a .0) (a .1 .codes))
