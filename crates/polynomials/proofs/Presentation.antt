@@ -1,23 +1,21 @@
 -- The lists of codes are the polynomial ring over their field, in the sense of algebra.
 use mathlib.Core.Path.{_≡_, refl, sym, _∙_, ap, ap₂, fun-ext}
 use mathlib.Core.Logic.{_≢_}
-use mathlib.Core.HLevel.{Σ-set, prop→set}
-use mathlib.Core.List.{List, [], _∷_, List·isSet}
+use mathlib.Core.List.{List, [], _∷_}
 use Prim.Native.Nat.{ℕ, zero, suc, _≤_, _<_}
-use native.Mathlib.Nat.{ℕ-set}
 use native.Mathlib.Omega.{arith}
 use lib.ListN.{length, getD, List·getD-eq-default}
 use Rattle.algebra.specs.Ring.{Ops, Laws}
 use Rattle.algebra.specs.Series.{tail, times, constant, series}
 use Rattle.algebra.specs.Polynomials.{Polynomials}
-use Rattle.algebra.proofs.Series as S
+use Rattle.algebra.proofs.PolynomialRing.{polynomial-laws}
 use Rattle.fields.specs.Arithmetic.{Arithmetic}
 use Rattle.fields.specs.Lawful.{Abelian, Lawful}
-use Rattle.fields.proofs.Codes.{Code, code-path, codes, codes-laws, zero-code}
+use Rattle.fields.proofs.Codes.{Code, code-path, codes, field, zero-code}
 use Rattle.polynomials.specs.Polynomial.{Polynomial, trim, add, negate, multiply, sum, negative, product}
 use Rattle.polynomials.specs.Proper.{Proper, Listed}
 use Rattle.polynomials.proofs.Coefficients.{Codes, trim-at, trim-equal, trim-last, add-at, negate-at, folded, multiply-at}
-use Rattle.polynomials.proofs.Listed.{proper-prop, listed-path, trim-proper, polynomials}
+use Rattle.polynomials.proofs.Listed.{listed-path, trim-proper, polynomials}
 
 module _ (K : Arithmetic) where
   -- the coefficient of x^k, as a code
@@ -117,40 +115,5 @@ module _ (K : Arithmetic) where
           unit-is = unit-is;
         }
 
-    abbrev P : Ops (Listed K)
-    P = polynomials K L
-
-    abbrev C : Ops (ℕ → Code (K .size))
-    C = series (codes K L)
-
-    -- The laws of the series hold for the coefficients, and so for the polynomials.
     pub list-laws : Laws (polynomials K L)
-    list-laws =
-        let T : Laws C = S.series-laws (codes-laws K L) in
-        let c : Listed K → ℕ → Code (K .size) = coefficient in
-        record {
-          isSet = Σ-set (List·isSet ℕ-set) (λ p. prop→set (proper-prop K p));
-          add-comm = λ a b. same-coefficients _ _ (add-is a b ∙ T .add-comm (c a) (c b) ∙ sym (add-is b a));
-          add-assoc = λ a b d.
-              same-coefficients _ _ (add-is (P .add a b) d
-              ∙ ap (λ s. C .add s (c d)) (add-is a b)
-              ∙ T .add-assoc (c a) (c b) (c d)
-              ∙ ap (C .add (c a)) (sym (add-is b d))
-              ∙ sym (add-is a (P .add b d)));
-          add-nil = λ a. same-coefficients _ _ (add-is a (P .nil) ∙ ap (C .add (c a)) nil-is ∙ T .add-nil (c a));
-          add-neg = λ a. same-coefficients _ _ (add-is a (P .neg a) ∙ ap (C .add (c a)) (neg-is a) ∙ T .add-neg (c a) ∙ sym nil-is);
-          mul-comm = λ a b. same-coefficients _ _ (mul-is a b ∙ T .mul-comm (c a) (c b) ∙ sym (mul-is b a));
-          mul-assoc = λ a b d.
-              same-coefficients _ _ (mul-is (P .mul a b) d
-              ∙ ap (λ s. C .mul s (c d)) (mul-is a b)
-              ∙ T .mul-assoc (c a) (c b) (c d)
-              ∙ ap (C .mul (c a)) (sym (mul-is b d))
-              ∙ sym (mul-is a (P .mul b d)));
-          mul-unit = λ a. same-coefficients _ _ (mul-is a (P .unit) ∙ ap (C .mul (c a)) unit-is ∙ T .mul-unit (c a));
-          mul-add = λ a b d.
-              same-coefficients _ _ (mul-is a (P .add b d)
-              ∙ ap (C .mul (c a)) (add-is b d)
-              ∙ T .mul-add (c a) (c b) (c d)
-              ∙ ap₂ (C .add) (sym (mul-is a b)) (sym (mul-is a d))
-              ∙ sym (add-is (P .mul a b) (P .mul a d)));
-        }
+    list-laws = polynomial-laws (field K L) presentation
