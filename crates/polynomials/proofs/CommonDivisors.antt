@@ -11,11 +11,11 @@ use Rattle.algebra.proofs.Elementary as R
 use Rattle.algebra.proofs.Reify.{by-ring, by-facts, _⋆_, terms}
 use Rattle.fields.specs.Arithmetic.{Arithmetic}
 use Rattle.fields.specs.Lawful.{Abelian, Lawful}
-use Rattle.polynomials.specs.Polynomial.{Polynomial, trim, add, negate, subtract, sum, negative, difference, product, quotient, remainder, Common, step-back, euclid}
+use Rattle.polynomials.specs.Polynomial.{Polynomial, sum, product, quotient, remainder, Common, step-back, euclid}
 use Rattle.polynomials.specs.Proper.{Proper, Listed}
-use Rattle.polynomials.proofs.Coefficients.{trim-at, trim-equal, add-at, negate-codes, trim-codes}
 use Rattle.polynomials.proofs.Listed.{listed-path, nil-list, none-proper, one-proper, sum-proper, difference-proper, product-proper, remainder-proper, polynomials}
 use Rattle.polynomials.proofs.Presentation.{same-lists, list-laws}
+use Rattle.polynomials.proofs.Operations.{difference-is}
 use Rattle.polynomials.proofs.Remainders.{quotient-of, remainder-of, division, remainder-less}
 
 module _ {C : Type 0} {o : Ops C} (T : Laws o) where
@@ -42,15 +42,6 @@ module _ {C : Type 0} {o : Ops C} (T : Laws o) where
 module _ (K : Arithmetic) (L : Lawful K) where
   abbrev P : Ops (Listed K)
   P = polynomials K L
-
-  pub difference-is : (a b : Listed K) → difference K (a .0) (b .0) ≡ sub P a b .0
-  unfolding polynomials difference sum negative
-  difference-is a b =
-      let n = negate K (b .0) in
-      trim-equal (subtract K (a .0) (b .0)) (add K (a .0) (trim n)) λ k.
-      add-at K L (a .0) n (a .1 .codes) (negate-codes K L (b .0)) k
-      ∙ ap (K .plus (getD (a .0) k 0)) (sym (trim-at n k))
-      ∙ sym (add-at K L (a .0) (trim n) (a .1 .codes) (trim-codes K L n (negate-codes K L (b .0))) k)
 
   -- polynomials g, f and s with g = f·a + s·b
   pub record Bezout (c : Common) (a b : Polynomial) : Type 0 where
@@ -83,7 +74,7 @@ module _ (K : Arithmetic) (L : Lawful K) where
         combination =
             ap (λ (p : Listed K). p .0) (stepped-back (list-laws K L) a b q (remainder-of K L a b) (c .divisor, h .divisor) f s
             (division K L a b) (listed-path (h .combination)))
-            ∙ ap (λ p. sum K (product K (s .0) (a .0)) (product K p (b .0))) (sym (difference-is f (P .mul q s)));
+            ∙ ap (λ p. sum K (product K (s .0) (a .0)) (product K p (b .0))) (sym (ap (λ (p : Listed K). p .0) (difference-is K L f (P .mul q s))));
       }
 
   pub euclid-bezout : (n : ℕ) (a b : Polynomial) → Proper K a → Proper K b → Bezout (euclid K n a b) a b
