@@ -1,26 +1,28 @@
 -- Long division of polynomials is division with remainder.
 use mathlib.Core.Path.{_≡_, refl, sym, _∙_, ap, ap₂}
-use mathlib.Core.Logic.{_≢_}
 use mathlib.Core.List.{List, [], _∷_}
 use Prim.Native.Nat.{ℕ, zero, suc, pred, _≤_, _<_}
 use native.Mathlib.Omega.{arith}
 use lib.ListN.{length, getD}
 use Rattle.algebra.specs.Ring.{Ops, Laws, sub}
-use Rattle.algebra.proofs.Reify.{by-ring, terms}
+use Rattle.algebra.proofs.Reify.{by-ring, by-facts, _⋆_, terms}
 use Rattle.fields.specs.Arithmetic.{Arithmetic}
 use Rattle.fields.specs.Lawful.{Abelian, Lawful}
 use Rattle.fields.proofs.Codes.{Code, codes, codes-laws, zero-code}
 use Rattle.polynomials.specs.Polynomial.{Polynomial, trim, add, scale, negate, subtract, multiply, divide, sum, negative, difference, product, quotient, remainder}
 use Rattle.polynomials.specs.Proper.{Proper, Listed}
-use Rattle.polynomials.proofs.Laws.{zero-plus}
-use Rattle.polynomials.proofs.Coefficients.{Codes, trim-at, cons-codes, add-at, multiply-codes, multiply-cons, multiply-same}
+use Rattle.polynomials.proofs.Laws.{zero-plus, times-zero}
+use Rattle.polynomials.proofs.Coefficients.{Codes, trim-at, trim-none, cons-codes, add-at, multiply-codes, multiply-cons, multiply-same}
 use Rattle.polynomials.proofs.Divisions.{times-in, left-over, left-over-at, remainder-codes, remainder-below}
-use Rattle.polynomials.proofs.Listed.{quotient-proper, remainder-proper, product-proper, polynomials}
-use Rattle.polynomials.proofs.Presentation.{same-lists}
+use Rattle.polynomials.proofs.Listed.{quotient-proper, remainder-proper, polynomials}
+use Rattle.polynomials.proofs.Presentation.{same-lists, list-laws}
 
 -- y·d is taken from the remainder s and added to the multiple m
 carried : {C : Type 0} {o : Ops C} → Laws o → (y m s : C) → o .add m s ≡ o .add (o .add y m) (o .add s (o .neg y))
 carried T y m s = by-ring T (y ∷ m ∷ s ∷ []) (search terms depth 60 fits 100000) refl
+
+rest-alone : {C : Type 0} {o : Ops C} → Laws o → (a q r : C) → a ≡ o .add (o .mul q (o .nil)) r → r ≡ a
+rest-alone {o = o} T a q r e = by-facts T (a ∷ q ∷ r ∷ []) (o .neg (o .unit) ⋆ e ∷ []) (search terms depth 60 fits 100000) refl
 
 module _ (K : Arithmetic) (L : Lawful K) where
   open Arithmetic K using (size, plus, times, minus)
@@ -76,3 +78,22 @@ module _ (K : Arithmetic) (L : Lawful K) where
   remainder-less a d some =
       let n : ℕ = pred (length (d .0)) in
       omega (arith, remainder-below K L (d .0) (d .1 .codes) n (omega arith) (d .1 .trimmed) (a .0) (a .1 .codes))
+
+  -- Division by 0.
+
+  no-quotient : (p : Polynomial) (k : ℕ) → getD (divide K p [] .quotient) k 0 ≡ 0
+  no-quotient [] k = refl
+  no-quotient (a ∷ p) zero =
+      let s : Polynomial = a ∷ divide K p [] .remainder in
+      ap (times (getD s 0 0)) (L .inverse-of-zero) ∙ times-zero K L (getD s 0 0)
+  no-quotient (a ∷ p) (suc k) = no-quotient p k
+
+  pub quotient-by-none : (p : Polynomial) → quotient K p [] ≡ []
+  unfolding quotient
+  quotient-by-none p = trim-none (divide K p [] .quotient) (no-quotient p)
+
+  pub remainder-by-none : (a : Listed K) → remainder K (a .0) [] ≡ a .0
+  unfolding polynomials
+  remainder-by-none a =
+      ap (λ (p : Listed K). p .0)
+      (rest-alone (list-laws K L) a (quotient-of a (P .nil)) (remainder-of a (P .nil)) (division a (P .nil)))
