@@ -10,6 +10,8 @@ pub mod Degree
 pub mod Regular
 pub mod PolynomialRing
 pub mod Size
+pub mod Monic
 pub mod Derivative
 pub mod Squarefree
+pub mod Division
 mod Examples

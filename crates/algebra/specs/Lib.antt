@@ -3,3 +3,4 @@ pub mod Field
 pub mod Series
 pub mod Divisibility
 pub mod Polynomials
+pub mod Division
