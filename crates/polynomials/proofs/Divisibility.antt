@@ -6,13 +6,13 @@ use native.Mathlib.Decide.{decLt}
 use native.Mathlib.Omega.{arith}
 use lib.ListN.{length}
 use Rattle.algebra.specs.Ring.{Ops, Laws, sub}
-use Rattle.algebra.specs.Field.{Field}
 use Rattle.algebra.specs.Polynomials.{Polynomials}
+use Rattle.algebra.specs.Division.{Divided}
 use Rattle.algebra.specs.Divisibility.{Divides, Congruent}
 use Rattle.algebra.proofs.Elementary as R
 use Rattle.algebra.proofs.Reify.{by-ring, by-facts, _⋆_, terms}
-use Rattle.algebra.proofs.PolynomialRing.{polynomial-laws}
 use Rattle.algebra.proofs.Size as S
+use Rattle.algebra.proofs.Division.{division-unique}
 use Rattle.fields.specs.Arithmetic.{Arithmetic}
 use Rattle.fields.specs.Lawful.{Lawful}
 use Rattle.fields.proofs.Codes.{codes, field}
@@ -33,9 +33,6 @@ module _ {C : Type 0} {o : Ops C} (T : Laws o) where
   rest-is : (a d q r : C) → a ≡ q · d + r → a - r ≡ d · q
   rest-is a d q r e = by-facts T (a ∷ d ∷ q ∷ r ∷ []) (unit ⋆ e ∷ []) (search terms depth 60 fits 100000) refl
 
-  no-rest : (a d q r : C) → a ≡ q · d + r → r ≡ nil → a ≡ d · q
-  no-rest a d q r e z = by-facts T (a ∷ d ∷ q ∷ r ∷ []) (unit ⋆ e ∷ unit ⋆ z ∷ []) (search terms depth 60 fits 100000) refl
-
   less-nothing : (a : C) → a - nil ≡ a
   less-nothing a = by-ring T (a ∷ []) (search terms depth 60 fits 100000) refl
 
@@ -46,33 +43,6 @@ module _ {C : Type 0} {o : Ops C} (T : Laws o) where
   grown : (a b d t q r : C) → a - b ≡ d · t → b ≡ q · d + r → a ≡ (t + q) · d + r
   grown a b d t q r e h = by-facts T (a ∷ b ∷ d ∷ t ∷ q ∷ r ∷ []) (unit ⋆ e ∷ unit ⋆ h ∷ []) (search terms depth 60 fits 100000) refl
 
-module _ {K : Type 0} {o : Ops K} (F : Field o) {P : Type 0} {p : Ops P} (H : Polynomials o p) where
-  infixl 75 _+_
-  infixl 80 _·_
-  open Ops p using (add as _+_, mul as _·_, neg, nil, unit)
-  open Polynomials H using (size)
-
-  -- There is one quotient and one remainder.
-  pub division-unique : (d q r q′ r′ : P) → size r < size d → size r′ < size d → q · d + r ≡ q′ · d + r′ → (q ≡ q′) × (r ≡ r′)
-  division-unique d q r q′ r′ l l′ e = (quotients, remainders)
-    where
-      T : Laws p
-      T = polynomial-laws F H
-
-      multiple : sub p r r′ ≡ d · sub p q′ q
-      multiple = by-facts T (d ∷ q ∷ r ∷ q′ ∷ r′ ∷ []) (unit ⋆ e ∷ []) (search terms depth 60 fits 100000) refl
-
-      below : size (sub p r r′) < size d
-      below = omega (arith, S.size-sub F H {n = pred (size d)} r r′ (omega arith) (omega arith))
-
-      remainders : r ≡ r′
-      remainders = R.eq-of-sub p T r r′ (S.divides-small F H (sub p q′ q, multiple) below)
-
-      quotients : q ≡ q′
-      quotients =
-          S.regular F H d (S.some-size F H d (omega arith)) q q′
-          (by-facts T (d ∷ q ∷ r ∷ q′ ∷ r′ ∷ []) (unit ⋆ e ∷ neg unit ⋆ remainders ∷ []) (search terms depth 60 fits 100000) refl)
-
 module _ (K : Arithmetic) (L : Lawful K) where
   abbrev P : Ops (Listed K)
   P = polynomials K L
@@ -80,17 +50,28 @@ module _ (K : Arithmetic) (L : Lawful K) where
   abbrev T : Laws P
   T = list-laws K L
 
-  -- Quotient and remainder are known by what they satisfy.
-  pub remainder-unique : (a d q r : Listed K) → length (r .0) < length (d .0) → a ≡ P .add (P .mul q d) r
-      → (quotient-of K L a d ≡ q) × (remainder-of K L a d ≡ r)
-  remainder-unique a d q r l e =
-      division-unique (field K L) (presentation K L) d (quotient-of K L a d) (remainder-of K L a d) q r
-      (remainder-less K L a d (omega arith)) l (sym (division K L a d) ∙ e)
+  abbrev H : Polynomials (codes K L) P
+  H = presentation K L
+
+  -- Long division divides in the sense of algebra, where the divisor is not 0.
+  abbrev pub divided : (a d : Listed K) → 0 < length (d .0) → Divided H a d
+  divided a d some =
+      record {
+        quotient = quotient-of K L a d;
+        remainder = remainder-of K L a d;
+        is = division K L a d;
+        smaller = remainder-less K L a d some;
+      }
+
+  -- So quotient and remainder are known by what they satisfy.
+  pub division-known : (a d : Listed K) (t : Divided H a d) → (quotient-of K L a d ≡ t .quotient) × (remainder-of K L a d ≡ t .remainder)
+  division-known a d t = division-unique (field K L) H (divided a d (omega (arith, t .smaller))) t
 
   -- d goes t times into d·t
   pub quotient-is : (a d t : Listed K) → 0 < length (d .0) → a ≡ P .mul d t → quotient-of K L a d ≡ t
   quotient-is a d t some e =
-      remainder-unique a d t (P .nil) (omega (arith, ap length (nil-list K L))) (e ∙ with-rest T d t) .0
+      division-known a d
+      (record { quotient = t; remainder = P .nil; is = e ∙ with-rest T d t; smaller = omega (arith, ap length (nil-list K L)) }) .0
 
   pub quotient-product : (d t : Listed K) → 0 < length (d .0) → quotient K (product K (d .0) (t .0)) (d .0) ≡ t .0
   unfolding polynomials
@@ -113,12 +94,13 @@ module _ (K : Arithmetic) (L : Lawful K) where
       proper some =
           let q : Listed K = quotient-of K L b d in
           let r : Listed K = remainder-of K L b d in
-          remainder-unique a d (P .add t q) r (remainder-less K L b d some) (grown T a b d t q r e (division K L b d)) .1
+          division-known a d
+          (record { quotient = P .add t q; remainder = r; is = grown T a b d t q r e (division K L b d); smaller = remainder-less K L b d some }) .1
 
       equal : length (d .0) ≡ 0 → a ≡ b
       equal z =
           R.eq-of-sub P T a b
-          (e ∙ ap (λ u. P .mul u t) (S.size-none (field K L) (presentation K L) d z) ∙ R.nil-mul P T t)
+          (e ∙ ap (λ u. P .mul u t) (S.size-none (field K L) H d z) ∙ R.nil-mul P T t)
 
   -- Divisibility is a remainder 0.
 
@@ -128,7 +110,9 @@ module _ (K : Arithmetic) (L : Lawful K) where
 
   remainder-none : (a d : Listed K) → remainder K (a .0) (d .0) ≡ [] → a ≡ P .mul d (quotient-of K L a d)
   remainder-none a d z =
-      no-rest T a d (quotient-of K L a d) (remainder-of K L a d) (division K L a d) (listed-path (z ∙ sym (nil-list K L)))
+      let r : Listed K = remainder-of K L a d in
+      let none : r ≡ P .nil = listed-path (z ∙ sym (nil-list K L)) in
+      sym (less-nothing T a) ∙ ap (sub P a) (sym none) ∙ rest-is T a d (quotient-of K L a d) r (division K L a d)
 
   pub remainder-divides : (a d : Listed K) → remainder K (a .0) (d .0) ≡ [] → Divides P d a
   remainder-divides a d z = (quotient-of K L a d, remainder-none a d z)

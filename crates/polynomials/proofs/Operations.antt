@@ -14,6 +14,7 @@ use Rattle.algebra.specs.Polynomials as theory
 use Rattle.algebra.specs.Polynomials.{Polynomials, constant}
 use Rattle.algebra.proofs.PolynomialRing as A
 use Rattle.algebra.proofs.Size as S
+use Rattle.algebra.proofs.Monic as M
 use Rattle.algebra.proofs.Derivative as D
 use Rattle.fields.specs.Arithmetic.{Arithmetic}
 use Rattle.fields.specs.Lawful.{Abelian, Lawful}
@@ -23,7 +24,7 @@ use Rattle.polynomials.specs.Proper.{Proper, Listed}
 use Rattle.polynomials.proofs.Laws.{times-zero}
 use Rattle.polynomials.proofs.Coefficients.{trim-at, add-at, scale-at, negate-codes, trim-codes}
 use Rattle.polynomials.proofs.Lengths.{multiple-length}
-use Rattle.polynomials.proofs.Listed.{difference-proper, multiple-proper, derivative-proper, polynomials, mul-list}
+use Rattle.polynomials.proofs.Listed.{difference-proper, multiple-proper, derivative-proper, polynomials}
 use Rattle.polynomials.proofs.Presentation.{coefficient, same-lists, nil-number, presentation}
 
 module _ (K : Arithmetic) (L : Lawful K) where
@@ -114,18 +115,12 @@ module _ (K : Arithmetic) (L : Lawful K) where
           let sizes = S.size-mul-some F H (constant H c) a (S.some-size F H (constant H c) (omega arith)) (S.some-size F H a l) in
           omega (arith, ap (λ (p : Listed K). length (p .0)) (multiple-is c a), one, sizes)
 
-  -- For factors that are not 0.
-
+  -- the degrees of factors that are not 0 add up
   pub product-length-is : (a b : Listed K) → 0 < length (a .0) → 0 < length (b .0)
       → suc (length (product K (a .0) (b .0))) ≡ length (a .0) + length (b .0)
-  product-length-is a b la lb =
-      ap (λ p. suc (length p)) (sym (mul-list K L a b))
-      ∙ S.size-mul-some F H a b (S.some-size F H a la) (S.some-size F H b lb)
+  unfolding polynomials
+  product-length-is a b la lb = S.size-mul-some F H a b (S.some-size F H a la) (S.some-size F H b lb)
 
-  pub leading-product : (a b : Listed K) → 0 < length (a .0) → 0 < length (b .0)
-      → leading (product K (a .0) (b .0)) ≡ K .times (leading (a .0)) (leading (b .0))
-  unfolding polynomials codes
-  leading-product a b la lb =
-      let top : pred (length (product K (a .0) (b .0))) ≡ pred (length (a .0)) + pred (length (b .0)) = omega (arith, product-length-is a b la lb) in
-      ap (λ k. getD (product K (a .0) (b .0)) k 0) top
-      ∙ ap (λ (c : Code (K .size)). c .0) (S.mul-top F H {m = pred (length (a .0))} {n = pred (length (b .0))} a b (omega arith) (omega arith))
+  pub leading-product : (a b : Listed K) → leading (product K (a .0) (b .0)) ≡ K .times (leading (a .0)) (leading (b .0))
+  unfolding polynomials codes theory.leading
+  leading-product a b = ap (λ (c : Code (K .size)). c .0) (M.leading-mul F H a b)
