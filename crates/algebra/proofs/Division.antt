@@ -1,12 +1,12 @@
 -- Division with remainder by a polynomial that is not 0: there is one quotient and one remainder.
-use mathlib.Core.Path.{_≡_, refl, sym, _∙_, ap, ap₂}
+use mathlib.Core.Path.{_≡_, refl, _∙_, ap}
 use mathlib.Core.Logic.{_≢_}
 use mathlib.Core.List.{[], _∷_}
 use Prim.Native.Nat.{ℕ, zero, suc, pred, _≤_, _<_}
 use native.Mathlib.Omega.{arith}
 use Rattle.algebra.specs.Ring.{Ops, Laws, sub}
 use Rattle.algebra.specs.Field.{Field}
-use Rattle.algebra.specs.Divisibility.{Congruent}
+use Rattle.algebra.specs.Divisibility.{Divides, Congruent}
 use Rattle.algebra.specs.Polynomials.{Polynomials, constant, x, tail}
 use Rattle.algebra.specs.Division.{Divided}
 use Rattle.algebra.proofs.Elementary as R
@@ -40,15 +40,36 @@ module _ {K : Type 0} {o : Ops K} (F : Field o) {P : Type 0} {p : Ops P} (H : Po
 
       remainders : r ≡ r′
       remainders =
-          congruent-small
-          (q′ - q,
-          by-facts L (a ∷ d ∷ q ∷ r ∷ q′ ∷ r′ ∷ []) (neg unit ⋆ e ∷ unit ⋆ e′ ∷ []) (search terms depth 60 fits 100000) refl) l l′
+          congruent-small (
+            q′ - q,
+            by-facts L (a ∷ d ∷ q ∷ r ∷ q′ ∷ r′ ∷ []) (neg unit ⋆ e ∷ unit ⋆ e′ ∷ []) (search terms depth 60 fits 100000) refl,
+          ) l l′
 
       quotients : q ≡ q′
       quotients =
           Z.regular F H d (Z.some-size F H d (omega arith)) q q′
           (by-facts L (a ∷ d ∷ q ∷ r ∷ q′ ∷ r′ ∷ []) (neg unit ⋆ e ∷ unit ⋆ e′ ∷ neg unit ⋆ remainders ∷ [])
           (search terms depth 60 fits 100000) refl)
+
+  -- d divides a where nothing remains, and only there; in any case a and what remains are congruent.
+
+  pub remainder-divides : {a d : P} (s : Divided H a d) → s .remainder ≡ nil → Divides p d a
+  remainder-divides {a = a} {d = d} s e = (q, by-facts L (a ∷ d ∷ q ∷ r ∷ []) (unit ⋆ s .is ∷ unit ⋆ e ∷ []) (search terms depth 60 fits 100000) refl)
+    where
+      open Divided s using (quotient as q, remainder as r)
+
+  pub remainder-congruent : {a d : P} (s : Divided H a d) → Congruent p d a (s .remainder)
+  remainder-congruent {a = a} {d = d} s = (q, by-facts L (a ∷ d ∷ q ∷ r ∷ []) (unit ⋆ s .is ∷ []) (search terms depth 60 fits 100000) refl)
+    where
+      open Divided s using (quotient as q, remainder as r)
+
+  pub divides-remainder : {a d : P} (s : Divided H a d) → Divides p d a → s .remainder ≡ nil
+  divides-remainder {a = a} {d = d} s (t, e) =
+      Z.divides-small F H
+      (t - q, by-facts L (a ∷ d ∷ q ∷ r ∷ t ∷ []) (neg unit ⋆ s .is ∷ unit ⋆ e ∷ []) (search terms depth 60 fits 100000) refl)
+      (s .smaller)
+    where
+      open Divided s using (quotient as q, remainder as r)
 
   -- Long division by d, of degree m: in a = a0 + x·tail a first the tail is divided, with remainder r; then d goes c times
   -- into s = a0 + x·r, with c the quotient of the coefficients of degree m.

@@ -3,9 +3,9 @@
 use mathlib.Core.Path.{_≡_, refl, sym, _∙_, ap, ap₂}
 use mathlib.Core.Logic.{_≢_}
 use mathlib.Core.List.{[], _∷_}
-use Prim.Native.Nat.{ℕ, zero, suc, pred, _≤_, _<_, _+_ as _+ᴺ_}
+use Prim.Native.Nat.{ℕ, zero, suc, pred, _≤_, _<_}
 use native.Mathlib.Omega.{arith}
-use Rattle.algebra.specs.Ring.{Ops, Laws, pow}
+use Rattle.algebra.specs.Ring.{Ops, pow}
 use Rattle.algebra.specs.Field.{Field}
 use Rattle.algebra.specs.Divisibility.{Divides}
 use Rattle.algebra.specs.Polynomials.{Polynomials, constant, x, leading, Monic}
@@ -57,11 +57,11 @@ module _ {K : Type 0} {o : Ops K} (F : Field o) {P : Type 0} {p : Ops P} (H : Po
 
   pub leading-mul : (a b : P) → leading H (a · b) ≡ o .mul (leading H a) (leading H b)
   leading-mul a b = elim (Z.same? F H a nil) [
-    yes z ↦
+    | yes z ↦
         leading-is (ap (λ c. c · b) z ∙ R.nil-mul p (A.polynomial-laws F H) b)
         ∙ sym (ap (λ c. o .mul c (leading H b)) (leading-is z) ∙ R.nil-mul o (F .laws) (leading H b))
     | no sa ↦ elim (Z.same? F H b nil) [
-      yes z ↦
+      | yes z ↦
           leading-is (ap (λ c. a · c) z ∙ R.mul-nil p (A.polynomial-laws F H) a)
           ∙ sym (ap (o .mul (leading H a)) (leading-is z) ∙ R.mul-nil o (F .laws) (leading H a))
       | no sb ↦ some (Z.size-some F H a sa) (Z.size-some F H b sb)
@@ -132,16 +132,17 @@ module _ {K : Type 0} {o : Ops K} (F : Field o) {P : Type 0} {p : Ops P} (H : Po
       ∙ F .laws .mul-comm (F .inverse (leading H a)) (leading H a)
       ∙ F .inverse-ok (leading H a) (leading-some a some)
 
-  pub divides-monic-of : (a : P) → Divides p a (monic-of a)
-  unfolding monic-of
-  divides-monic-of a =
-      (constant H (F .inverse (leading H a)), A.polynomial-laws F H .mul-comm (constant H (F .inverse (leading H a))) a)
+  -- it is a unit times the polynomial, and the other way round
+  pub leading-unit : (a : P) → a ≢ nil → constant H (leading H a) · constant H (F .inverse (leading H a)) ≡ unit
+  leading-unit a some = Z.constant-inverse F H (leading H a) (leading-some a some)
 
-  pub monic-of-divides : (a : P) → a ≢ nil → Divides p (monic-of a) a
+  pub monic-of-back : (a : P) → a ≢ nil → a ≡ constant H (leading H a) · monic-of a
   unfolding monic-of
-  monic-of-divides a some =
-      (constant H (leading H a),
-      back (constant H (leading H a)) (constant H (F .inverse (leading H a))) (Z.constant-inverse F H (leading H a) (leading-some a some)))
+  monic-of-back a some = back (constant H (leading H a)) (constant H (F .inverse (leading H a))) (leading-unit a some)
     where
-      back : (κ κ′ : P) → κ · κ′ ≡ unit → a ≡ κ′ · a · κ
+      back : (κ κ′ : P) → κ · κ′ ≡ unit → a ≡ κ · (κ′ · a)
       back κ κ′ e = by-facts (A.polynomial-laws F H) (a ∷ κ ∷ κ′ ∷ []) (neg a ⋆ e ∷ []) (search terms depth 60 fits 100000) refl
+
+  pub monic-of-size : (a : P) → a ≢ nil → size (monic-of a) ≡ size a
+  monic-of-size a some =
+      sym (ap size (monic-of-back a some) ∙ Z.size-constant-mul F H (leading H a) (monic-of a) (leading-some a some))
