@@ -1,7 +1,7 @@
 -- Euclid's steps answer a common divisor with its cofactors, and made monic it is the greatest common divisor.
 use mathlib.Core.Path.{_≡_, refl, sym, _∙_, ap, ap₂, subst}
 use mathlib.Core.Logic.{_≢_}
-use mathlib.Core.List.{List, [], _∷_}
+use mathlib.Core.List.{[], _∷_}
 use Prim.Native.Nat.{ℕ, zero, suc, _+_ as _+ᴺ_, _<_}
 use native.Mathlib.Decide.{decLt}
 use native.Mathlib.Omega.{arith}
@@ -24,7 +24,7 @@ use Rattle.polynomials.specs.Polynomial.{Polynomial, leading, sum, product, qu
 use Rattle.polynomials.specs.Proper.{Proper, Listed}
 use Rattle.polynomials.proofs.Listed.{listed-path, none-proper, one-proper, difference-proper, multiple-proper, remainder-proper, polynomials, nil-list}
 use Rattle.polynomials.proofs.Presentation.{presentation, list-laws}
-use Rattle.polynomials.proofs.Operations.{difference-is, multiple-of, multiple-is, leading-is}
+use Rattle.polynomials.proofs.Operations.{difference-is, multiple-is, leading-is}
 use Rattle.polynomials.proofs.Remainders.{quotient-of, remainder-of, division, remainder-less}
 
 module _ {C : Type 0} {o : Ops C} (T : Laws o) where
@@ -190,6 +190,11 @@ module _ (K : Arithmetic) (L : Lawful K) where
         ∙ scaled T κ a b g f s (listed-path (bezout .combination))
         ∙ ap₂ (λ u v. P .add (P .mul u a) (P .mul v b)) (sym first-is) (sym second-is)
 
+    pub gcd-combination-list : gcd K (a .0) (b .0) .divisor
+        ≡ sum K (product K (gcd K (a .0) (b .0) .first) (a .0)) (product K (gcd K (a .0) (b .0) .second) (b .0))
+    unfolding polynomials
+    gcd-combination-list = ap (λ (p : Listed K). p .0) gcd-combination
+
     inverse-is : ι ≡ F .inverse (theory.leading H g)
     inverse-is = code-path (ap (K .inverse) (leading-is K L g) ∙ sym (inverse-number K L (theory.leading H g)))
 
@@ -226,6 +231,10 @@ module _ (K : Arithmetic) (L : Lawful K) where
               | yes la ↦ S.divisor-some F H (common .divides .0) (S.some-size F H a la)
               | no none ↦ S.divisor-some F H (common .divides .1 .0) (S.some-size F H b (omega arith))
             ]
+
+    pub gcd-leading : 0 < length (a .0) +ᴺ length (b .0) → leading (gcd K (a .0) (b .0) .divisor) ≡ 1
+    unfolding codes
+    gcd-leading l = leading-is K L (gcd-of a b) ∙ ap (λ (c : Code (K .size)). c .0) (gcd-monic l)
 
     -- and it is the only one
     pub gcd-unique : (d : Listed K) → Monic H d → Greatest P (a ∷ b ∷ []) d → gcd-of a b ≡ d

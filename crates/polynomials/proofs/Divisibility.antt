@@ -1,7 +1,7 @@
 -- Quotient and remainder are the only ones; divisibility and congruence of polynomials are read off the remainder.
 use mathlib.Core.Path.{_≡_, refl, sym, _∙_, ap}
 use mathlib.Core.List.{[], _∷_}
-use Prim.Native.Nat.{ℕ, pred, _<_}
+use Prim.Native.Nat.{_<_}
 use native.Mathlib.Decide.{decLt}
 use native.Mathlib.Omega.{arith}
 use lib.ListN.{length}

@@ -1,18 +1,18 @@
 -- The polynomials over a lawful field, each as its list: the operations on lists keep to them and are their ring operations.
-use mathlib.Core.Path.{_≡_, refl, sym, _∙_, ap, ap₂}
+use mathlib.Core.Path.{_≡_, refl}
 use mathlib.Core.HLevel.{Σ-prop-path, Π-prop}
-use mathlib.Core.List.{List, [], _∷_, List·isSet}
-use Prim.Native.Nat.{ℕ, zero, suc, _<_}
+use mathlib.Core.List.{[], _∷_, List·isSet}
+use Prim.Native.Nat.{ℕ, zero, suc}
 use native.Mathlib.Nat.{ℕ-set}
 use native.Mathlib.Bridge.{le-prop}
-use lib.ListN.{length, getD}
+use lib.ListN.{getD}
 use Rattle.algebra.specs.Ring.{Ops}
 use Rattle.fields.specs.Arithmetic.{Arithmetic}
-use Rattle.fields.specs.Lawful.{Abelian, Lawful}
+use Rattle.fields.specs.Lawful.{Lawful}
 use Rattle.fields.proofs.Codes.{zero-code, one-code}
-use Rattle.polynomials.specs.Polynomial.{Polynomial, trim, add, scale, negate, subtract, multiply, divide, weigh, derive, numeral, sum, negative, difference, product, multiple, quotient, remainder, Common, step-back, euclid, gcd, derivative}
+use Rattle.polynomials.specs.Polynomial.{Polynomial, trim, add, scale, negate, subtract, multiply, divide, weigh, derive, numeral, sum, negative, difference, product, multiple, quotient, remainder, derivative}
 use Rattle.polynomials.specs.Proper.{Proper, Listed}
-use Rattle.polynomials.proofs.Coefficients.{Codes, trim-at, trim-trim, trim-codes, add-codes, scale-codes, negate-codes, subtract-codes, multiply-codes}
+use Rattle.polynomials.proofs.Coefficients.{Codes, trim-trim, trim-codes, add-codes, scale-codes, negate-codes, subtract-codes, multiply-codes}
 use Rattle.polynomials.proofs.Divisions.{quotient-codes, remainder-codes, remainder-trimmed}
 
 -- to be a polynomial is a proposition

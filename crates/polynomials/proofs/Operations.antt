@@ -1,14 +1,14 @@
 -- Differences, multiples by a constant, derivatives and leading coefficients of lists are those of polynomials; the length
 -- and the leading coefficient of a product.
-use mathlib.Core.Path.{_≡_, refl, sym, _∙_, ap, ap₂}
+use mathlib.Core.Path.{_≡_, refl, sym, _∙_, ap}
 use mathlib.Core.Logic.{_≢_}
-use mathlib.Core.List.{List, [], _∷_}
-use Prim.Native.Nat.{ℕ, zero, suc, pred, _+_, _≤_, _<_}
+use mathlib.Core.List.{[], _∷_}
+use Prim.Native.Nat.{ℕ, zero, suc, _+_, _<_}
 use native.Mathlib.Decide.{decLt}
 use native.Mathlib.Omega.{arith}
 use lib.ListN.{length, getD}
 use Rattle.algebra.specs.Ring as ring
-use Rattle.algebra.specs.Ring.{Ops, Laws, sub}
+use Rattle.algebra.specs.Ring.{Ops, sub}
 use Rattle.algebra.specs.Field.{Field}
 use Rattle.algebra.specs.Polynomials as theory
 use Rattle.algebra.specs.Polynomials.{Polynomials, constant}
@@ -17,10 +17,10 @@ use Rattle.algebra.proofs.Size as S
 use Rattle.algebra.proofs.Monic as M
 use Rattle.algebra.proofs.Derivative as D
 use Rattle.fields.specs.Arithmetic.{Arithmetic}
-use Rattle.fields.specs.Lawful.{Abelian, Lawful}
+use Rattle.fields.specs.Lawful.{Lawful}
 use Rattle.fields.proofs.Codes.{Code, code-path, codes, field}
 use Rattle.polynomials.specs.Polynomial.{Polynomial, trim, leading, add, scale, negate, subtract, numeral, weigh, derive, sum, negative, difference, product, multiple, derivative}
-use Rattle.polynomials.specs.Proper.{Proper, Listed}
+use Rattle.polynomials.specs.Proper.{Listed}
 use Rattle.polynomials.proofs.Laws.{times-zero}
 use Rattle.polynomials.proofs.Coefficients.{trim-at, add-at, scale-at, negate-codes, trim-codes}
 use Rattle.polynomials.proofs.Lengths.{multiple-length}

@@ -1,19 +1,19 @@
 -- The lists of codes are the polynomial ring over their field, in the sense of algebra.
-use mathlib.Core.Path.{_≡_, refl, sym, _∙_, ap, ap₂, fun-ext}
+use mathlib.Core.Path.{_≡_, refl, sym, _∙_, ap, fun-ext}
 use mathlib.Core.Logic.{_≢_}
-use mathlib.Core.List.{List, [], _∷_}
+use mathlib.Core.List.{[], _∷_}
 use Prim.Native.Nat.{ℕ, zero, suc, _≤_, _<_}
 use native.Mathlib.Omega.{arith}
 use lib.ListN.{length, getD, List·getD-eq-default}
-use Rattle.algebra.specs.Ring.{Ops, Laws}
-use Rattle.algebra.specs.Series.{tail, times, constant, series}
+use Rattle.algebra.specs.Ring.{Laws}
+use Rattle.algebra.specs.Series.{times, constant, series}
 use Rattle.algebra.specs.Polynomials.{Polynomials}
 use Rattle.algebra.proofs.PolynomialRing.{polynomial-laws}
 use Rattle.fields.specs.Arithmetic.{Arithmetic}
-use Rattle.fields.specs.Lawful.{Abelian, Lawful}
+use Rattle.fields.specs.Lawful.{Lawful}
 use Rattle.fields.proofs.Codes.{Code, code-path, codes, field, zero-code}
 use Rattle.polynomials.specs.Polynomial.{Polynomial, trim, add, negate, multiply, sum, negative, product}
-use Rattle.polynomials.specs.Proper.{Proper, Listed}
+use Rattle.polynomials.specs.Proper.{Listed}
 use Rattle.polynomials.proofs.Coefficients.{Codes, trim-at, trim-equal, trim-last, add-at, negate-at, folded, multiply-at}
 use Rattle.polynomials.proofs.Listed.{listed-path, trim-proper, polynomials}
 

@@ -1,19 +1,19 @@
 -- Long division of polynomials is division with remainder.
 use mathlib.Core.Path.{_≡_, refl, sym, _∙_, ap, ap₂}
-use mathlib.Core.List.{List, [], _∷_}
-use Prim.Native.Nat.{ℕ, zero, suc, pred, _≤_, _<_}
+use mathlib.Core.List.{[], _∷_}
+use Prim.Native.Nat.{ℕ, zero, suc, pred, _<_}
 use native.Mathlib.Omega.{arith}
 use lib.ListN.{length, getD}
-use Rattle.algebra.specs.Ring.{Ops, Laws, sub}
+use Rattle.algebra.specs.Ring.{Ops, Laws}
 use Rattle.algebra.proofs.Reify.{by-ring, by-facts, _⋆_, terms}
 use Rattle.fields.specs.Arithmetic.{Arithmetic}
-use Rattle.fields.specs.Lawful.{Abelian, Lawful}
+use Rattle.fields.specs.Lawful.{Lawful}
 use Rattle.fields.proofs.Codes.{Code, codes, codes-laws, zero-code}
-use Rattle.polynomials.specs.Polynomial.{Polynomial, trim, add, scale, negate, subtract, multiply, divide, sum, negative, difference, product, quotient, remainder}
-use Rattle.polynomials.specs.Proper.{Proper, Listed}
+use Rattle.polynomials.specs.Polynomial.{Polynomial, trim, add, multiply, divide, sum, product, quotient, remainder}
+use Rattle.polynomials.specs.Proper.{Listed}
 use Rattle.polynomials.proofs.Laws.{zero-plus, times-zero}
 use Rattle.polynomials.proofs.Coefficients.{Codes, trim-at, trim-none, cons-codes, add-at, multiply-codes, multiply-cons, multiply-same}
-use Rattle.polynomials.proofs.Divisions.{times-in, left-over, left-over-at, remainder-codes, remainder-below}
+use Rattle.polynomials.proofs.Divisions.{times-in, left-over-at, remainder-codes, remainder-below}
 use Rattle.polynomials.proofs.Listed.{quotient-proper, remainder-proper, polynomials}
 use Rattle.polynomials.proofs.Presentation.{same-lists, list-laws}
 
@@ -72,6 +72,11 @@ module _ (K : Arithmetic) (L : Lawful K) where
       ∙ ap (λ x. plus x (getD r k 0)) (sym (trim-at m k ∙ multiply-same K L (trim q) q (d .0) (d .0) (trim-at q) (λ k. refl) k))
       ∙ sym (trim-at (add K (trim m) r) k
       ∙ add-at K L (trim m) r (P .mul (quotient-of a d) d .1 .codes) (remainder-of a d .1 .codes) k)
+
+  pub division-list : (a d : Listed K)
+      → a .0 ≡ sum K (product K (quotient K (a .0) (d .0)) (d .0)) (remainder K (a .0) (d .0))
+  unfolding polynomials
+  division-list a d = ap (λ (p : Listed K). p .0) (division a d)
 
   pub remainder-less : (a d : Listed K) → 0 < length (d .0) → length (remainder K (a .0) (d .0)) < length (d .0)
   unfolding remainder
