@@ -22,7 +22,7 @@ use Rattle.fields.specs.Lawful.{Lawful}
 use Rattle.fields.proofs.Codes.{Code, code-path, codes, field, inverse-number}
 use Rattle.polynomials.specs.Polynomial.{Polynomial, leading, sum, product, quotient, remainder, Common, step-back, euclid, gcd}
 use Rattle.polynomials.specs.Proper.{Proper, Listed}
-use Rattle.polynomials.proofs.Listed.{listed-path, none-proper, one-proper, difference-proper, multiple-proper, remainder-proper, polynomials, nil-list}
+use Rattle.polynomials.proofs.Listed.{list-path, listed-path, none-proper, one-proper, difference-proper, multiple-proper, remainder-proper, polynomials, nil-list}
 use Rattle.polynomials.proofs.Presentation.{presentation, list-laws}
 use Rattle.polynomials.proofs.Operations.{difference-is, multiple-is, leading-is}
 use Rattle.polynomials.proofs.Remainders.{quotient-of, remainder-of, division, remainder-less}
@@ -73,7 +73,7 @@ module _ (K : Arithmetic) (L : Lawful K) where
         divisor = a .1;
         first = one-proper K L;
         second = none-proper K L;
-        combination = ap (λ (p : Listed K). p .0) (first-alone T a b);
+        combination = list-path (first-alone T a b);
       }
 
   stepped : (a b : Listed K) (c : Common) → Bezout c (b .0) (remainder K (a .0) (b .0))
@@ -89,7 +89,7 @@ module _ (K : Arithmetic) (L : Lawful K) where
         first = h .second;
         second = difference-proper K L (h .first) (product K (q .0) (s .0));
         combination =
-            ap (λ (p : Listed K). p .0)
+            list-path
             (stepped-back T a b q r (c .divisor, h .divisor) f s (division K L a b) (listed-path (h .combination))
             ∙ ap (λ p. P .add (P .mul s a) (P .mul p b)) (sym (difference-is K L f (P .mul q s))));
       }
@@ -193,7 +193,7 @@ module _ (K : Arithmetic) (L : Lawful K) where
     pub gcd-combination-list : gcd K (a .0) (b .0) .divisor
         ≡ sum K (product K (gcd K (a .0) (b .0) .first) (a .0)) (product K (gcd K (a .0) (b .0) .second) (b .0))
     unfolding polynomials
-    gcd-combination-list = ap (λ (p : Listed K). p .0) gcd-combination
+    gcd-combination-list = list-path gcd-combination
 
     inverse-is : ι ≡ F .inverse (theory.leading H g)
     inverse-is = code-path (ap (K .inverse) (leading-is K L g) ∙ sym (inverse-number K L (theory.leading H g)))

@@ -18,7 +18,7 @@ use Rattle.fields.specs.Lawful.{Lawful}
 use Rattle.fields.proofs.Codes.{codes, field}
 use Rattle.polynomials.specs.Polynomial.{product, quotient, remainder}
 use Rattle.polynomials.specs.Proper.{Listed}
-use Rattle.polynomials.proofs.Listed.{listed-path, polynomials, nil-list}
+use Rattle.polynomials.proofs.Listed.{list-path, listed-path, polynomials, nil-list}
 use Rattle.polynomials.proofs.Presentation.{presentation, list-laws}
 use Rattle.polynomials.proofs.Remainders.{quotient-of, remainder-of, division, remainder-less}
 
@@ -75,7 +75,7 @@ module _ (K : Arithmetic) (L : Lawful K) where
 
   pub quotient-product : (d t : Listed K) → 0 < length (d .0) → quotient K (product K (d .0) (t .0)) (d .0) ≡ t .0
   unfolding polynomials
-  quotient-product d t some = ap (λ (p : Listed K). p .0) (quotient-is (P .mul d t) d t some refl)
+  quotient-product d t some = list-path (quotient-is (P .mul d t) d t some refl)
 
   -- Congruence is equality of the remainders.
 
@@ -86,7 +86,7 @@ module _ (K : Arithmetic) (L : Lawful K) where
   pub congruent-remainder : (a b d : Listed K) → Congruent P d a b → remainder K (a .0) (d .0) ≡ remainder K (b .0) (d .0)
   congruent-remainder a b d (t, e) =
       elim (decLt 0 (length (d .0))) [
-        | yes some ↦ ap (λ (p : Listed K). p .0) (proper some)
+        | yes some ↦ list-path (proper some)
         | no none ↦ ap (λ (p : Listed K). remainder K (p .0) (d .0)) (equal (omega arith))
       ]
     where
@@ -122,4 +122,4 @@ module _ (K : Arithmetic) (L : Lawful K) where
 
   pub divides-product : (a d : Listed K) → Divides P d a → a .0 ≡ product K (quotient K (a .0) (d .0)) (d .0)
   unfolding polynomials
-  divides-product a d h = ap (λ (p : Listed K). p .0) (divides-quotient a d h ∙ T .mul-comm d (quotient-of K L a d))
+  divides-product a d h = list-path (divides-quotient a d h ∙ T .mul-comm d (quotient-of K L a d))

@@ -2,7 +2,6 @@
 -- and the leading coefficient of a product.
 use mathlib.Core.Path.{_≡_, refl, sym, _∙_, ap}
 use mathlib.Core.Logic.{_≢_}
-use mathlib.Core.List.{[], _∷_}
 use Prim.Native.Nat.{ℕ, zero, suc, _+_, _<_}
 use native.Mathlib.Decide.{decLt}
 use native.Mathlib.Omega.{arith}
@@ -19,10 +18,10 @@ use Rattle.algebra.proofs.Derivative as D
 use Rattle.fields.specs.Arithmetic.{Arithmetic}
 use Rattle.fields.specs.Lawful.{Lawful}
 use Rattle.fields.proofs.Codes.{Code, code-path, codes, field}
-use Rattle.polynomials.specs.Polynomial.{Polynomial, trim, leading, add, scale, negate, subtract, numeral, weigh, derive, sum, negative, difference, product, multiple, derivative}
+use Rattle.polynomials.specs.Polynomial.{Polynomial, trim, leading, add, scale, negate, subtract, numeral, derive, sum, negative, difference, product, multiple, derivative}
 use Rattle.polynomials.specs.Proper.{Listed}
-use Rattle.polynomials.proofs.Laws.{times-zero}
 use Rattle.polynomials.proofs.Coefficients.{trim-at, add-at, scale-at, negate-codes, trim-codes}
+use Rattle.polynomials.proofs.Derivatives.{derive-at}
 use Rattle.polynomials.proofs.Lengths.{multiple-length}
 use Rattle.polynomials.proofs.Listed.{difference-proper, multiple-proper, derivative-proper, polynomials}
 use Rattle.polynomials.proofs.Presentation.{coefficient, same-lists, nil-number, presentation}
@@ -70,17 +69,6 @@ module _ (K : Arithmetic) (L : Lawful K) where
   numeral-is zero = refl
   numeral-is (suc n) = ap (K .plus 1) (numeral-is n)
 
-  weigh-at : (n : ℕ) (p : Polynomial) (k : ℕ) → getD (weigh K n p) k 0 ≡ K .times (numeral K (n + k)) (getD p k 0)
-  weigh-at n [] k = sym (times-zero K L (numeral K (n + k)))
-  weigh-at n (a ∷ p) zero = ap (λ m. K .times (numeral K m) a) (omega arith)
-  weigh-at n (a ∷ p) (suc k) = weigh-at (suc n) p k ∙ ap (λ m. K .times (numeral K m) (getD p k 0)) (omega arith)
-
-  derive-at : (p : Polynomial) (k : ℕ) → getD (derive K p) k 0 ≡ K .times (numeral K (suc k)) (getD p (suc k) 0)
-  derive-at [] k = sym (times-zero K L (numeral K (suc k)))
-  derive-at (a ∷ p) k =
-      let e : 1 + k ≡ suc k = omega arith in
-      weigh-at 1 p k ∙ ap (λ m. K .times (numeral K m) (getD p k 0)) e
-
   abbrev pub derivative-of : Listed K → Listed K
   derivative-of a = (derivative K (a .0), derivative-proper K L (a .0))
 
@@ -89,7 +77,7 @@ module _ (K : Arithmetic) (L : Lawful K) where
   unfolding codes derivative
   derivative-at a k =
       code-path (trim-at (derive K (a .0)) k
-      ∙ derive-at (a .0) k
+      ∙ derive-at K L (a .0) k
       ∙ ap (λ c. K .times c (getD (a .0) (suc k) 0)) (numeral-is (suc k)))
 
   pub derivative-is : (a : Listed K) → derivative-of a ≡ theory.derivative H a

@@ -14,7 +14,7 @@ use Rattle.polynomials.specs.Proper.{Listed}
 use Rattle.polynomials.proofs.Laws.{zero-plus, times-zero}
 use Rattle.polynomials.proofs.Coefficients.{Codes, trim-at, trim-none, cons-codes, add-at, multiply-codes, multiply-cons, multiply-same}
 use Rattle.polynomials.proofs.Divisions.{times-in, left-over-at, remainder-codes, remainder-below}
-use Rattle.polynomials.proofs.Listed.{quotient-proper, remainder-proper, polynomials}
+use Rattle.polynomials.proofs.Listed.{list-path, quotient-proper, remainder-proper, polynomials}
 use Rattle.polynomials.proofs.Presentation.{same-lists, list-laws}
 
 -- y·d is taken from the remainder s and added to the multiple m
@@ -76,7 +76,7 @@ module _ (K : Arithmetic) (L : Lawful K) where
   pub division-list : (a d : Listed K)
       → a .0 ≡ sum K (product K (quotient K (a .0) (d .0)) (d .0)) (remainder K (a .0) (d .0))
   unfolding polynomials
-  division-list a d = ap (λ (p : Listed K). p .0) (division a d)
+  division-list a d = list-path (division a d)
 
   pub remainder-less : (a d : Listed K) → 0 < length (d .0) → length (remainder K (a .0) (d .0)) < length (d .0)
   unfolding remainder
@@ -100,5 +100,5 @@ module _ (K : Arithmetic) (L : Lawful K) where
   pub remainder-by-none : (a : Listed K) → remainder K (a .0) [] ≡ a .0
   unfolding polynomials
   remainder-by-none a =
-      ap (λ (p : Listed K). p .0)
+      list-path
       (rest-alone (list-laws K L) a (quotient-of a (P .nil)) (remainder-of a (P .nil)) (division a (P .nil)))
