@@ -3,8 +3,6 @@
 use mathlib.Core.Path.{_≡_, refl, sym, _∙_, ap}
 use mathlib.Core.Logic.{_≢_}
 use Prim.Native.Nat.{ℕ, zero, suc, _+_, _<_}
-use native.Mathlib.Decide.{decLt}
-use native.Mathlib.Omega.{arith}
 use lib.ListN.{length, getD}
 use Rattle.algebra.specs.Ring as ring
 use Rattle.algebra.specs.Ring.{Ops, sub}
@@ -22,7 +20,6 @@ use Rattle.polynomials.specs.Polynomial.{Polynomial, trim, leading, add, scale
 use Rattle.polynomials.specs.Proper.{Listed}
 use Rattle.polynomials.proofs.Coefficients.{trim-at, add-at, scale-at, negate-codes, trim-codes}
 use Rattle.polynomials.proofs.Derivatives.{derive-at}
-use Rattle.polynomials.proofs.Lengths.{multiple-length}
 use Rattle.polynomials.proofs.Listed.{difference-proper, multiple-proper, derivative-proper, polynomials}
 use Rattle.polynomials.proofs.Presentation.{coefficient, same-lists, nil-number, presentation}
 
@@ -92,16 +89,8 @@ module _ (K : Arithmetic) (L : Lawful K) where
 
   pub multiple-length-is : (c : Code (K .size)) (a : Listed K) → c .0 ≢ 0 → length (multiple K (c .0) (a .0)) ≡ length (a .0)
   multiple-length-is c a some =
-      elim (decLt 0 (length (a .0))) [ yes l ↦ whole l | no l ↦ omega (arith, multiple-length K (c .0) (a .0)) ]
-    where
-      unit : c ≢ codes K L .nil
-      unit e = some (ap (λ (b : Code (K .size)). b .0) e ∙ nil-number K L)
-
-      whole : 0 < length (a .0) → length (multiple K (c .0) (a .0)) ≡ length (a .0)
-      whole l =
-          let one : length (constant H c .0) ≡ 1 = S.size-constant F H c unit in
-          let sizes = S.size-mul-some F H (constant H c) a (S.some-size F H (constant H c) (omega arith)) (S.some-size F H a l) in
-          omega (arith, ap (λ (p : Listed K). length (p .0)) (multiple-is c a), one, sizes)
+      ap (λ (p : Listed K). length (p .0)) (multiple-is c a)
+      ∙ S.size-constant-mul F H c a (λ e. some (ap (λ (b : Code (K .size)). b .0) e ∙ nil-number K L))
 
   -- the degrees of factors that are not 0 add up
   pub product-length-is : (a b : Listed K) → 0 < length (a .0) → 0 < length (b .0)
