@@ -61,7 +61,7 @@ module _ (K : Arithmetic) (L : Lawful K) where
 
   -- Derivatives.
 
-  numeral-is : (n : ℕ) → numeral K n ≡ ring.numeral (codes K L) n .0
+  pub numeral-is : (n : ℕ) → numeral K n ≡ ring.numeral (codes K L) n .0
   unfolding codes
   numeral-is zero = refl
   numeral-is (suc n) = ap (K .plus 1) (numeral-is n)
