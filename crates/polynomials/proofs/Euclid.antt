@@ -86,8 +86,16 @@ module _ (K : Arithmetic) (L : Lawful K) where
       stepped (a, ha) (b₀ ∷ b, hb) (euclid K n (b₀ ∷ b) r) (euclid-bezout n (b₀ ∷ b) r hb (remainder-proper K L ha (b₀ ∷ b)))
 
   -- a constant times all three
+  abbrev pub all-multiples : ℕ → Common → Common
+  all-multiples k c =
+      record {
+        divisor = multiple K k (c .divisor);
+        first = multiple K k (c .first);
+        second = multiple K k (c .second);
+      }
+
   pub multiple-bezout : (k : Code (K .size)) (c : Common) (a b : Listed K) → Bezout c (a .0) (b .0)
-      → Bezout (record { divisor = multiple K (k .0) (c .divisor); first = multiple K (k .0) (c .first); second = multiple K (k .0) (c .second) }) (a .0) (b .0)
+      → Bezout (all-multiples (k .0) c) (a .0) (b .0)
   unfolding polynomials
   multiple-bezout k c a b h =
       let κ : Listed K = constant (presentation K L) k in
