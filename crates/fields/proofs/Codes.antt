@@ -1,6 +1,6 @@
 -- The codes of a lawful field are a field in the sense of algebra, so that the ring solver and the theory of polynomials
 -- apply to them.
-use mathlib.Core.Path.{_≡_, _∙_, ap}
+use mathlib.Core.Path.{_≡_, refl, _∙_, ap}
 use mathlib.Core.Logic.{_≢_}
 use mathlib.Core.HLevel.{Σ-prop-path, Σ-set, prop→set}
 use Prim.Native.Nat.{ℕ, suc, _<_}
@@ -69,3 +69,7 @@ module _ (K : Arithmetic) (L : Lawful K) where
         inverse-ok = λ a some. code-path (L .inverse-cancels (a .0) (a .1) (λ e. some (code-path e)));
         two = λ e. L .two-not-zero (ap (λ (c : Code (K .size)). c .0) e);
       }
+
+  pub inverse-number : (a : Code (K .size)) → field .inverse a .0 ≡ K .inverse (a .0)
+  unfolding field
+  inverse-number a = refl

@@ -8,3 +8,7 @@ use Rattle.polynomials.specs.Polynomial.{Polynomial, trim}
 pub record Proper (K : Arithmetic) (p : Polynomial) : Type 0 where
   pub codes : (k : ℕ) → getD p k 0 < K .size
   pub trimmed : trim p ≡ p
+
+-- the polynomials over a field, each as its list
+abbrev pub Listed : Arithmetic → Type 0
+Listed K = (p : Polynomial) × Proper K p
