@@ -1,0 +1,5 @@
+pub mod Curves
+pub mod Divisors
+pub mod Drafts
+pub mod Sums
+pub mod Methods

@@ -1,0 +1,150 @@
+// Divisors in Mumford representation, with a count for one of the two points at infinity.
+ghost use mathlib.Core.Path.{_≡_};
+ghost use Rattle.fields.specs.Lawful.{Lawful};
+ghost use Rattle.polynomials.specs.Ten.{value};
+ghost use Rattle.methods.specs.Divisors.{u-of, v-of, shaped, unused, linear-codes, on-curve, entered as entered-as, opposite, divisor-refusal-number};
+use crate::curve::Curve;
+use crate::curve::sextic;
+use fields::Field;
+use polynomials::Polynomial;
+use polynomials::difference;
+use polynomials::divide;
+use polynomials::is_zero;
+use polynomials::product;
+
+// x1·x + x0
+#[derive(Clone, Copy)]
+pub struct Linear {
+    pub x1: u32,
+    pub x0: u32,
+}
+
+// [u; v; n]: u is monic of this degree, with the lower coefficients given; v has a smaller degree, and coefficients that are
+// not used are 0; n counts the point at infinity where y/x³ is 1.
+#[derive(Clone, Copy)]
+pub struct Divisor {
+    pub degree: u8,
+    pub u: Linear,
+    pub v: Linear,
+    pub n: u8,
+}
+
+// Why a divisor is refused.
+#[derive(Clone, Copy)]
+pub enum DivisorRefusal {
+    // 4: the degree is above 2, n is above 2 − degree, or an unused coefficient is not 0
+    Shape,
+    // 5: a coefficient is above q − 1
+    NotACode,
+    // 9: u does not divide f − v²
+    NotOnCurve,
+}
+
+impl DivisorRefusal {
+    // The number of the condition.
+    pub fn number(self) -> u8
+        ensures { λ r. ⌜ r ≡ divisor-refusal-number self ⌝ }
+    {
+        match self {
+            DivisorRefusal::Shape => 4,
+            DivisorRefusal::NotACode => 5,
+            DivisorRefusal::NotOnCurve => 9,
+        }
+    }
+}
+
+impl Divisor {
+    // u as a polynomial, in which a number that is no code is read as 0.
+    pub fn u_polynomial<F: Field>(self, field: &F) -> Polynomial
+        ensures { λ r. ⌜ value (F·Field .meaning (now (field .entry))) (r .codes) ≡ u-of (F·Field .meaning (now (field .entry))) self ⌝ }
+    {
+        let x0 = self.u.x0;
+        let x1 = self.u.x1;
+        match self.degree {
+            0 => Polynomial::ONE,
+            1 => Polynomial {
+                codes: [x0, 1, 0, 0, 0, 0, 0, 0, 0, 0],
+            },
+            _ => Polynomial {
+                codes: [x0, x1, 1, 0, 0, 0, 0, 0, 0, 0],
+            },
+        }
+    }
+
+    // v as a polynomial, in which a number that is no code is read as 0.
+    pub fn v_polynomial<F: Field>(self, field: &F) -> Polynomial
+        ensures { λ r. ⌜ value (F·Field .meaning (now (field .entry))) (r .codes) ≡ v-of (F·Field .meaning (now (field .entry))) self ⌝ }
+    {
+        Polynomial {
+            codes: [self.v.x0, self.v.x1, 0, 0, 0, 0, 0, 0, 0, 0],
+        }
+    }
+}
+
+// The divisor, if it is valid on the curve; or else why it is not: 4, then 5, then 9.
+pub fn entered<F: Field>(field: &F, curve: Curve, d: Divisor) -> Result<Divisor, DivisorRefusal>
+    ensures { λ r. ⌜ (Lawful (F·Field .meaning (now (field .entry))) → r ≡ entered-as (F·Field .meaning (now (field .entry))) curve d) ⌝ }
+{
+    if !is_shaped(d) {
+        return Err(DivisorRefusal::Shape);
+    }
+    if !has_codes(field, d.u) || !has_codes(field, d.v) {
+        return Err(DivisorRefusal::NotACode);
+    }
+    if !is_on_curve(field, curve, d) {
+        return Err(DivisorRefusal::NotOnCurve);
+    }
+    Ok(d)
+}
+
+// [u; −v; 2 − deg u − n]
+pub fn negative<F: Field>(field: &F, d: Divisor) -> Divisor
+    ensures { λ r. ⌜ r ≡ opposite (F·Field .meaning (now (field .entry))) d ⌝ }
+{
+    Divisor {
+        degree: d.degree,
+        u: d.u,
+        v: Linear {
+            x1: field.negative(d.v.x1),
+            x0: field.negative(d.v.x0),
+        },
+        n: 2u8.saturating_sub(d.degree).saturating_sub(d.n),
+    }
+}
+
+// Degree at most 2, n at most 2 − degree, and unused coefficients 0.
+fn is_shaped(d: Divisor) -> bool
+    ensures { λ r. ⌜ r ≡ shaped d ⌝ }
+{
+    d.degree <= 2 && d.n <= 2 - d.degree && is_unused(d.degree, d.u) && is_unused(d.degree, d.v)
+}
+
+// Whether the coefficients that a polynomial of a smaller degree does not use are 0.
+fn is_unused(degree: u8, l: Linear) -> bool
+    ensures { λ r. ⌜ r ≡ unused degree l ⌝ }
+{
+    match degree {
+        0 => l.x1 == 0 && l.x0 == 0,
+        1 => l.x1 == 0,
+        _ => true,
+    }
+}
+
+fn has_codes<F: Field>(field: &F, l: Linear) -> bool
+    ensures { λ r. ⌜ r ≡ linear-codes (F·Field .meaning (now (field .entry))) l ⌝ }
+{
+    l.x1 < field.size() && l.x0 < field.size()
+}
+
+// Whether u divides f − v².
+fn is_on_curve<F: Field>(field: &F, curve: Curve, d: Divisor) -> bool
+    ensures { λ r. ⌜ (Lawful (F·Field .meaning (now (field .entry))) → r ≡ on-curve (F·Field .meaning (now (field .entry))) curve d) ⌝ }
+{
+    let v = d.v_polynomial(field);
+    let (_, rest) = divide(
+        field,
+        difference(field, sextic(field, curve), product(field, v, v)),
+        d.u_polynomial(field),
+    );
+    is_zero(field, rest)
+}
