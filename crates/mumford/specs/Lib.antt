@@ -1,0 +1,4 @@
+pub mod Functions
+pub mod Accounts
+pub mod Composition
+pub mod Reduction
