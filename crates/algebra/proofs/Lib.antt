@@ -7,4 +7,9 @@ pub mod Solver
 pub mod Reify
 pub mod Series
 pub mod Degree
+pub mod Regular
+pub mod PolynomialRing
+pub mod Size
+pub mod Derivative
+pub mod Squarefree
 mod Examples

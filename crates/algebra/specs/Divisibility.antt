@@ -13,3 +13,7 @@ Divides {P} o u p = (t : P) × (p ≡ o .mul u t)
 -- x and z leave the same remainder by u
 abbrev pub Congruent : {P : Type 0} → Ops P → P → P → P → Type 0
 Congruent o u x z = Divides o u (sub o x z)
+
+-- a and b have no common divisor but units: 1 is a combination s·a + t·b of them
+abbrev pub Coprime : {P : Type 0} → Ops P → P → P → Type 0
+Coprime {P} o a b = (s : P) × (t : P) × (o .add (o .mul s a) (o .mul t b) ≡ o .unit)

@@ -3,8 +3,9 @@
 -- of coefficients is a polynomial's, and the operations are those of the series of coefficients.
 use mathlib.Core.Path.{_≡_}
 use mathlib.Core.Logic.{_≢_}
-use Prim.Native.Nat.{ℕ, suc, _≤_, _<_}
+use Prim.Native.Nat.{ℕ, suc, pred, _≤_, _<_}
 use Rattle.algebra.specs.Ring.{Ops}
+use Rattle.algebra.specs.Series as S
 use Rattle.algebra.specs.Series.{series}
 
 pub record Polynomials {K : Type 0} (o : Ops K) {P : Type 0} (p : Ops P) : Type 0 where
@@ -23,3 +24,27 @@ pub record Polynomials {K : Type 0} (o : Ops K) {P : Type 0} (p : Ops P) : Type 
   pub neg-is : (a : P) → coefficient (p .neg a) ≡ series o .neg (coefficient a)
   pub nil-is : coefficient (p .nil) ≡ series o .nil
   pub unit-is : coefficient (p .unit) ≡ series o .unit
+
+module _ {K : Type 0} {o : Ops K} {P : Type 0} {p : Ops P} (H : Polynomials o p) where
+  -- the constant c
+  unfoldable pub constant : K → P
+  constant c = H .make 1 (S.constant o c)
+
+  -- the unknown
+  unfoldable pub x : P
+  x = H .make 2 (S.x o)
+
+  -- what stands behind the constant coefficient: a is a0 + x·tail a
+  unfoldable pub tail : P → P
+  tail a = H .make (H .size a) (S.tail o (H .coefficient a))
+
+  -- the derivative
+  unfoldable pub derivative : P → P
+  derivative a = H .make (H .size a) (S.derivative o (H .coefficient a))
+
+  -- the highest coefficient, and 0 for the polynomial 0
+  unfoldable pub leading : P → K
+  leading a = H .coefficient a (pred (H .size a))
+
+  abbrev pub Monic : P → Type 0
+  Monic a = leading a ≡ o .unit

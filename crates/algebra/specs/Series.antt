@@ -2,7 +2,7 @@
 use mathlib.Core.Path.{_≡_}
 use mathlib.Core.Logic.{_≢_}
 use Prim.Native.Nat.{ℕ, zero, suc, _≤_}
-use Rattle.algebra.specs.Ring.{Ops, pow}
+use Rattle.algebra.specs.Ring.{Ops, pow, numeral}
 
 module _ {K : Type 0} (o : Ops K) where
   -- what stands behind the constant coefficient: p is p 0 + x·tail p
@@ -23,6 +23,9 @@ module _ {K : Type 0} (o : Ops K) where
   abbrev pub x : ℕ → K
   x zero = o .nil
   x (suc k) = constant (o .unit) k
+
+  abbrev pub derivative : (ℕ → K) → ℕ → K
+  derivative p k = o .mul (numeral o (suc k)) (p (suc k))
 
   -- The operations stay shut, so that the ring solver meets them as they are written.
   unfoldable pub series : Ops (ℕ → K)
