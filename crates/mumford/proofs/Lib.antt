@@ -1,6 +1,7 @@
 pub mod Functions
-pub mod Regular
 pub mod Congruences
 pub mod Sums
 pub mod Accounts
 pub mod Members
+pub mod Composition
+pub mod Reduction

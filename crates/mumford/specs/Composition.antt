@@ -42,9 +42,9 @@ module _ {P : Type 0} (o : Ops P) (f u1 v1 u2 v2 : P) where
     pub at2 : Congruent o (c .U1 · c .U2) (c .U2 · v) (c .U2 · v1)
     pub at3 : Congruent o (c .U1 · c .U2) (c .β · v) (c .α)
 
-  -- d, v1 − v2 and (f − v1²)/u1 have no common divisor.
-  pub record Coprime (c : Common) : Type 0 where
+  -- d, v1 − v2 and (f − v1²)/u1 have no common factor: 1 is a combination of them.
+  pub record NoCommonFactor (c : Common) : Type 0 where
     pub c1 : P
     pub c2 : P
     pub c3 : P
-    pub coprime : c1 · c .d + c2 · sub o v1 v2 + c3 · c .k1 ≡ o .unit
+    pub combined : c1 · c .d + c2 · sub o v1 v2 + c3 · c .k1 ≡ o .unit

@@ -1,4 +1,5 @@
 pub mod Functions
+pub mod Divisors
 pub mod Accounts
 pub mod Composition
 pub mod Reduction
