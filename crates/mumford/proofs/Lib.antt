@@ -5,3 +5,5 @@ pub mod Accounts
 pub mod Members
 pub mod Composition
 pub mod Reduction
+pub mod Smooth
+pub mod Coprime
