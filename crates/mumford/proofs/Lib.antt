@@ -7,3 +7,4 @@ pub mod Composition
 pub mod Reduction
 pub mod Smooth
 pub mod Coprime
+pub mod Approximation

@@ -3,3 +3,4 @@ pub mod Divisors
 pub mod Accounts
 pub mod Composition
 pub mod Reduction
+pub mod Curve
