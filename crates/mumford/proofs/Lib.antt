@@ -8,3 +8,4 @@ pub mod Reduction
 pub mod Smooth
 pub mod Coprime
 pub mod Approximation
+pub mod Norm
