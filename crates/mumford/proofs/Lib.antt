@@ -9,3 +9,4 @@ pub mod Smooth
 pub mod Coprime
 pub mod Approximation
 pub mod Norm
+pub mod Growth

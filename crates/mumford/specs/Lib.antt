@@ -4,3 +4,4 @@ pub mod Accounts
 pub mod Composition
 pub mod Reduction
 pub mod Curve
+pub mod Growth
