@@ -10,3 +10,4 @@ pub mod Coprime
 pub mod Approximation
 pub mod Norm
 pub mod Growth
+pub mod Lines
