@@ -1,7 +1,7 @@
 -- The derivative: of a sum, of a product, of a constant; first of series, and from there of polynomials.
 use mathlib.Core.Path.{_≡_, refl, sym, _∙_, ap, ap₂, fun-ext}
 use mathlib.Core.List.{[], _∷_}
-use Prim.Native.Nat.{ℕ, zero, suc, pred, _≤_}
+use Prim.Native.Nat.{ℕ, zero, suc, _≤_}
 use native.Mathlib.Omega.{arith}
 use Rattle.algebra.specs.Ring.{Ops, Laws, numeral}
 use Rattle.algebra.specs.Field.{Field}
@@ -62,7 +62,7 @@ module _ {K : Type 0} {o : Ops K} (L : Laws o) where
   series-derivative-mul p q = fun-ext (product-at p q)
 
 module _ {K : Type 0} {o : Ops K} (F : Field o) {P : Type 0} {p : Ops P} (H : Polynomials o p) where
-  open Ops p using (add as _+_, mul as _·_, neg, nil, unit)
+  open Ops p using (add as _+_, mul as _·_, nil)
   open Polynomials H using (coefficient, same, size, ends, add-is, mul-is)
 
   infixl 75 _+_

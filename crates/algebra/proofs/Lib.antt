@@ -8,8 +8,14 @@ pub mod Reify
 pub mod Series
 pub mod Degree
 pub mod Regular
+pub mod Divisibility
+pub mod Coprime
 pub mod PolynomialRing
 pub mod Size
+pub mod Monic
 pub mod Derivative
 pub mod Squarefree
+pub mod Division
+pub mod Greatest
+pub mod CommonDivisor
 mod Examples

@@ -3,7 +3,8 @@
 -- as a constant and a multiple of the unknown.
 use mathlib.Core.Path.{_≡_, refl, sym, _∙_, ap, ap₂, fun-ext}
 use mathlib.Core.HLevel.{collapsible→set}
-use Prim.Native.Nat.{ℕ, zero, suc, _≤_, _<_}
+use mathlib.Core.List.{[], _∷_}
+use Prim.Native.Nat.{ℕ, zero, suc}
 use native.Mathlib.Decide.{decLt}
 use native.Mathlib.Omega.{arith}
 use Rattle.algebra.specs.Ring.{Ops, Laws, sub}
@@ -12,12 +13,13 @@ use Rattle.algebra.specs.Series as series-of
 use Rattle.algebra.specs.Series.{series, Below}
 use Rattle.algebra.specs.Polynomials.{Polynomials, constant, x, tail}
 use Rattle.algebra.proofs.Elementary as R
+use Rattle.algebra.proofs.Reify.{by-ring, terms}
 use Rattle.algebra.proofs.Series as S
 use Rattle.algebra.proofs.Degree as D
 
 module _ {K : Type 0} {o : Ops K} (F : Field o) {P : Type 0} {p : Ops P} (H : Polynomials o p) where
   open Ops p using (add as _+_, mul as _·_, neg, nil, unit)
-  open Polynomials H using (coefficient, same, size, ends, make, made, made-ends, add-is, mul-is, neg-is, nil-is, unit-is)
+  open Polynomials H using (coefficient, same, ends, make, made, made-ends, add-is, mul-is, neg-is, nil-is, unit-is)
 
   infixl 75 _+_
   infixl 80 _·_
@@ -27,7 +29,7 @@ module _ {K : Type 0} {o : Ops K} (F : Field o) {P : Type 0} {p : Ops P} (H : Po
   abbrev SL : Laws (series o)
   SL = S.series-laws L
 
-  open Ops (series o) using (add as _⊞_, mul as _⊠_, neg as opposite)
+  open Ops (series o) using (add as _⊞_, mul as _⊠_)
 
   infixl 75 _⊞_
   infixl 80 _⊠_
@@ -103,6 +105,20 @@ module _ {K : Type 0} {o : Ops K} (F : Field o) {P : Type 0} {p : Ops P} (H : Po
   pub constant-at : (c : K) (a : P) (k : ℕ) → coefficient (constant H c · a) k ≡ o .mul c (coefficient a k)
   constant-at c a k = ap (λ s. s k) (products (constant H c) a (constant-is c) refl) ∙ S.constant-at L c (coefficient a) k
 
+  pub constant-add : (c d : K) → constant H c + constant H d ≡ constant H (o .add c d)
+  constant-add c d = same-at (constant H c + constant H d) (constant H (o .add c d)) at
+    where
+      plus : (k : ℕ) → o .add (series-of.constant o c k) (series-of.constant o d k) ≡ series-of.constant o (o .add c d) k
+      plus zero = refl
+      plus (suc k) = L .add-nil (o .nil)
+
+      at : (k : ℕ) → coefficient (constant H c + constant H d) k ≡ coefficient (constant H (o .add c d)) k
+      at k =
+          add-at (constant H c) (constant H d) k
+          ∙ ap₂ (λ r s. o .add (r k) (s k)) (constant-is c) (constant-is d)
+          ∙ plus k
+          ∙ sym (ap (λ s. s k) (constant-is (o .add c d)))
+
   pub constant-mul : (c d : K) → constant H c · constant H d ≡ constant H (o .mul c d)
   constant-mul c d = same-at (constant H c · constant H d) (constant H (o .mul c d)) at
     where
@@ -116,6 +132,16 @@ module _ {K : Type 0} {o : Ops K} (F : Field o) {P : Type 0} {p : Ops P} (H : Po
           ∙ ap (λ s. o .mul c (s k)) (constant-is d)
           ∙ times k
           ∙ sym (ap (λ s. s k) (constant-is (o .mul c d)))
+
+  -- 2 is invertible
+  pub half : (h : P) × (h + h ≡ unit)
+  half =
+      let two = o .add (o .unit) (o .unit) in
+      let h = F .inverse two in
+      (constant H h, constant-add h h ∙ ap (constant H) (twice h ∙ F .inverse-ok two (F .two)) ∙ constant-unit)
+    where
+      twice : (c : K) → o .add c c ≡ o .mul (o .add (o .unit) (o .unit)) c
+      twice c = by-ring L (c ∷ []) (search terms depth 60 fits 100000) refl
 
   -- The unknown.
 

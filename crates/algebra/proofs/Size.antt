@@ -1,24 +1,24 @@
 -- The sizes of polynomials: of sums and products, of divisors, of units. So there are no zero divisors, what is not 0 can
 -- be cancelled, and equality is decided.
-use mathlib.Core.Path.{_≡_, refl, sym, _∙_, ap, subst}
+use mathlib.Core.Path.{_≡_, refl, sym, _∙_, ap}
 use mathlib.Core.Logic.{_≢_}
 use mathlib.Core.List.{[], _∷_}
 use Prim.Native.Nat.{ℕ, zero, suc, pred, _≤_, _<_, _+_ as _+ᴺ_}
-use native.Mathlib.Decide.{ℕ-discrete, decLe, decLt}
+use native.Mathlib.Decide.{ℕ-discrete, decLt}
 use native.Mathlib.Omega.{arith}
 use Rattle.algebra.specs.Ring.{Ops, Laws, sub, pow}
 use Rattle.algebra.specs.Field.{Field}
-use Rattle.algebra.specs.Series.{series, Below, Degree}
+use Rattle.algebra.specs.Series.{Below, Degree}
 use Rattle.algebra.specs.Divisibility.{Regular, Divides}
-use Rattle.algebra.specs.Polynomials.{Polynomials, constant, x, tail, leading}
+use Rattle.algebra.specs.Polynomials.{Polynomials, constant, x, tail}
 use Rattle.algebra.proofs.Elementary as R
 use Rattle.algebra.proofs.Degree as D
-use Rattle.algebra.proofs.Reify.{by-ring, by-facts, _⋆_, terms}
+use Rattle.algebra.proofs.Reify.{by-facts, _⋆_, terms}
 use Rattle.algebra.proofs.PolynomialRing as A
 
 module _ {K : Type 0} {o : Ops K} (F : Field o) {P : Type 0} {p : Ops P} (H : Polynomials o p) where
   open Ops p using (add as _+_, mul as _·_, neg, nil, unit)
-  open Polynomials H using (coefficient, same, size, ends, top, add-is, mul-is, neg-is, nil-is, unit-is)
+  open Polynomials H using (coefficient, same, size, ends, top, add-is, mul-is, neg-is, nil-is)
 
   infixl 75 _+_ _-_
   infixl 80 _·_
@@ -129,6 +129,21 @@ module _ {K : Type 0} {o : Ops K} (F : Field o) {P : Type 0} {p : Ops P} (H : Po
   pub size-mul-most : {m n : ℕ} (a b : P) → size a ≤ suc m → size b ≤ n → size (a · b) ≤ m +ᴺ n
   size-mul-most a b la lb =
       below-size (a · b) (D.below-same F (sym (mul-is a b)) (D.mul-below F (size-below a la) (size-below b lb)))
+
+  pub size-constant-mul : (c : K) (a : P) → c ≢ o .nil → size (constant H c · a) ≡ size a
+  size-constant-mul c a some =
+      elim (ℕ-discrete (size a) 0) [
+        | yes e ↦ ap size (ap (λ b. constant H c · b) (size-none a e) ∙ R.mul-nil p L (constant H c)) ∙ size-nil ∙ sym e
+        | no l ↦ omega (arith, size-mul {m = 0} {n = pred (size a)} (constant H c) a (size-constant c some) (omega arith))
+      ]
+
+  pub size-twice : (a : P) → size (a + a) ≡ size a
+  size-twice a =
+      ap size (twice (constant H (o .unit)) (A.constant-unit F H)
+      ∙ ap (λ c. c · a) (A.constant-add F H (o .unit) (o .unit))) ∙ size-constant-mul (o .add (o .unit) (o .unit)) a (F .two)
+    where
+      twice : (c : P) → c ≡ unit → a + a ≡ (c + c) · a
+      twice c e = by-facts L (a ∷ c ∷ []) (neg (a + a) ⋆ e ∷ []) (search terms depth 60 fits 100000) refl
 
   -- the highest coefficient of a product
   pub mul-top : {m n : ℕ} (a b : P) → size a ≤ suc m → size b ≤ suc n

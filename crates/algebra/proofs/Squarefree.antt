@@ -2,9 +2,9 @@
 use mathlib.Core.Path.{_≡_, refl, sym, _∙_, ap}
 use mathlib.Core.Logic.{_≢_}
 use mathlib.Core.List.{[], _∷_}
-use Prim.Native.Nat.{ℕ, suc, _<_}
+use Prim.Native.Nat.{_<_}
 use native.Mathlib.Omega.{arith}
-use Rattle.algebra.specs.Ring.{Ops, Laws}
+use Rattle.algebra.specs.Ring.{Ops}
 use Rattle.algebra.specs.Field.{Field}
 use Rattle.algebra.specs.Divisibility.{Divides, Coprime}
 use Rattle.algebra.specs.Polynomials.{Polynomials, derivative}
