@@ -5,23 +5,25 @@ use mathlib.Core.Path.{_≡_, refl, sym, subst}
 use mathlib.Core.List.{List, [], _∷_}
 use Rattle.algebra.specs.Ring.{Ops, Laws, sub}
 use Rattle.algebra.specs.Divisibility.{Congruent}
+use Rattle.algebra.specs.CommonDivisor.{Greatest}
 use Rattle.algebra.proofs.Reify.{_⋆_, by-facts, terms}
 use Rattle.mumford.specs.Functions.{Function, functions, constant, Member}
 use Rattle.mumford.specs.Divisors.{Divisor, Members}
-use Rattle.mumford.specs.Composition.{Common, Bezout, Composite, NoCommonFactor}
+use Rattle.mumford.specs.Composition.{Shared, Quotients, Composite}
 use Rattle.mumford.specs.Accounts.{Sums, none, more, Multiple, Product, SameSets}
 use Rattle.mumford.proofs.Functions.{both, function-laws}
 use Rattle.mumford.proofs.Sums.{sums-in, multiple-closed}
 use Rattle.mumford.proofs.Members.{member-u, member-y, members-closed, members-ideal}
 use Rattle.mumford.proofs.Congruences as C
 
-module _ {P : Type 0} {o : Ops P} (L : Laws o) {f : P} (D E : Divisor P) (c : Common o f (D .u) (D .v) (E .u) (E .v)) where
+module _ {P : Type 0} {o : Ops P} (L : Laws o) {f : P} (D E : Divisor P) {d : P}
+    (c : Quotients o f (D .u) (D .v) (E .u) (E .v) d) where
   infixl 75 _+_ _-_
   infixl 80 _·_
-  open Ops o using (add as _+_, mul as _·_, neg, unit)
+  open Ops o using (add as _+_, mul as _·_, neg, nil, unit)
   open Divisor D using (u as u1, v as v1)
   open Divisor E using (u as u2, v as v2)
-  open Common c using (d, U1, U2, β, α, k1, k2, first, second, middle, cross, valid2)
+  open Quotients c using (U1, U2, β, α, k1, k2, first, second, middle, cross, valid2)
 
   abbrev _-_ : P → P → P
   _-_ = sub o
@@ -98,14 +100,21 @@ module _ {P : Type 0} {o : Ops P} (L : Laws o) {f : P} (D E : Divisor P) (c : Co
       (more (term-of (y- v1) (constant o u2) κ3 (member-y L u1 v1) (member-u L u2 v2))
       (more (term-of (y- v1) (y- v2) κ4 (member-y L u1 v1) (member-y L u2 v2)) none)))
 
-  module _ (b : Bezout o f u1 v1 u2 v2 d) where
-    open Bezout b using (e1, e2, e3, bezout)
+  module _ (g : Shared o f u1 v1 u2 v2 d) where
+    abbrev e1 : P
+    e1 = g .factor 0
+
+    abbrev e2 : P
+    e2 = g .factor 1
+
+    abbrev e3 : P
+    e3 = g .factor 2
 
     -- Each d·m is such a combination. With a + b·v = u·t, v = ruled + u·q and τ = t − b·q,
     -- d·m = τ·d·u + b·(e1·u1·(y − v2) + e2·u2·(y − v1) − e3·(y − v1)·(y − v2)), and d·u is a combination since
     -- d·u·d = u1·u2, d·u·(v1 − v2) = U2·u1·(y − v2) − U1·u2·(y − v1) and d·u·k1 = β·u2·(y − v1) + U2·(y − v1)·(y − v2).
     spread : (c1 c2 c3 v a b t q τ : P)
-        → c1 · d + c2 · (v1 - v2) + c3 · k1 ≡ unit
+        → unit ≡ c1 · d + (c2 · (v1 - v2) + (c3 · k1 + nil))
         → a + b · v ≡ u · t → v ≡ e1 · U1 · v2 + e2 · U2 · v1 + e3 · α + u · q → τ ≡ t - b · q
         → F .mul (constant o d) (a, b)
         ≡ combination (τ · c1) (τ · c2 · U2 + b · e1) (τ · (c3 · β - c2 · U1) + b · e2) (τ · c3 · U2 - b · e3)
@@ -115,7 +124,7 @@ module _ {P : Type 0} {o : Ops P} (L : Laws o) {f : P} (D E : Divisor P) (c : Co
         (d ⋆ p
         ∷ neg (d · b) ⋆ r
         ∷ neg (d · u) ⋆ h
-        ∷ neg (d · u · τ) ⋆ z
+        ∷ d · u · τ ⋆ z
         ∷ b · e1 · v2 - τ · c1 · u2 + τ · c2 · U2 · v2 ⋆ first
         ∷ b · e2 · v1 - τ · c1 · d · U1 - τ · c2 · U1 · v1 + τ · c3 · β · v1 ⋆ second
         ∷ b · e3 - τ · c3 · U2 ⋆ cross
@@ -123,7 +132,7 @@ module _ {P : Type 0} {o : Ops P} (L : Laws o) {f : P} (D E : Divisor P) (c : Co
         ∷ [])
         (search terms depth 60 fits 100000) refl)
         (by-facts L (v ∷ a ∷ b ∷ t ∷ q ∷ τ ∷ c1 ∷ c2 ∷ c3 ∷ e1 ∷ e2 ∷ e3 ∷ constants)
-        (b ⋆ bezout
+        (b ⋆ g .combines
         ∷ neg (τ · c2 · U2) ⋆ first
         ∷ neg (τ · (c3 · β - c2 · U1)) ⋆ second
         ∷ τ · c3 · U2 ⋆ middle
@@ -134,11 +143,18 @@ module _ {P : Type 0} {o : Ops P} (L : Laws o) {f : P} (D E : Divisor P) (c : Co
     same x p q r e k l =
         by-facts LF (x ∷ p ∷ q ∷ r ∷ []) (F .unit ⋆ e ∷ F .unit ⋆ k ∷ F .unit ⋆ l ∷ []) (search terms depth 60 fits 100000) refl
 
-    pub composition-sets : (S : Divisor P) → S .u ≡ u → Composite o f u1 v1 u2 v2 c (S .v) → NoCommonFactor o f u1 v1 u2 v2 c
+    pub composition-sets : (S : Divisor P) → S .u ≡ u → Composite o f u1 v1 u2 v2 c (S .v) → Greatest o (d ∷ v1 - v2 ∷ k1 ∷ []) unit
         → SameSets F (Members o) (F .unit) (constant o d) S account
     composition-sets S e k n = subst (λ S. SameSets F (Members o) (F .unit) (constant o d) S account) path sets
       where
-        open NoCommonFactor n using (c1, c2, c3, combined)
+        c1 : P
+        c1 = n .factor 0
+
+        c2 : P
+        c2 = n .factor 1
+
+        c3 : P
+        c3 = n .factor 2
 
         v : P
         v = S .v
@@ -158,12 +174,12 @@ module _ {P : Type 0} {o : Ops P} (L : Laws o) {f : P} (D E : Divisor P) (c : Co
             → Span (F .mul (constant o d) m)
         reach (a, b) (t, p) (q, r) =
             let τ = t - b · q in
-            subst Span (sym (spread c1 c2 c3 v a b t q τ combined p r refl))
+            subst Span (sym (spread c1 c2 c3 v a b t q τ (n .combines) p r refl))
             (combination-in (τ · c1) (τ · c2 · U2 + b · e1) (τ · (c3 · β - c2 · U1) + b · e2) (τ · c3 · U2 - b · e3))
 
         sets : SameSets F (Members o) (F .unit) (constant o d) made account
         sets =
             record {
               within = sums-in LF (multiple-closed LF (constant o d) (members-closed L f u v)) term;
-              reached = λ x (m, M, e). subst Span (sym e) (reach m M (C.composite-value L c b v k));
+              reached = λ x (m, M, e). subst Span (sym e) (reach m M (C.composite-value L c g v k));
             }

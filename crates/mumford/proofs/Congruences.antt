@@ -4,41 +4,42 @@ use mathlib.Core.Path.{_≡_, refl, sym, _∙_}
 use mathlib.Core.List.{List, [], _∷_}
 use Rattle.algebra.specs.Ring.{Ops, Laws, sub}
 use Rattle.algebra.specs.Divisibility.{Regular, Divides, Congruent}
+use Rattle.algebra.specs.CommonDivisor.{Each}
 use Rattle.algebra.proofs.Reify.{_⋆_, by-facts, terms}
 use Rattle.mumford.specs.Functions.{Represents}
-use Rattle.mumford.specs.Composition.{Common, Bezout, numerator, Composite}
+use Rattle.mumford.specs.Composition.{Shared, numerator, Quotients, Composite}
 
--- What a common divisor is known by. α comes for nothing: f + v1·v2 = v1·(v1 + v2) + u1·k1.
-pub make-common : {P : Type 0} {o : Ops P} (L : Laws o) {f u1 v1 u2 v2 d : P}
-    → Regular o d
-    → Divides o d u1 → Divides o d u2 → Divides o d (o .add v1 v2)
-    → Represents o f u1 v1 → Represents o f u2 v2
-    → Common o f u1 v1 u2 v2
-make-common {o = o} L {f} {u1} {v1} {u2} {v2} {d} cancel (U1, first) (U2, second) (β, middle) (k1, valid1) (k2, valid2) =
-    record {
-      d = d;
-      U1 = U1;
-      U2 = U2;
-      β = β;
-      α = o .add (o .mul v1 β) (o .mul U1 k1);
-      k1 = k1;
-      k2 = k2;
-      first = first;
-      second = second;
-      middle = middle;
-      cross =
-          by-facts L (d ∷ U1 ∷ β ∷ k1 ∷ f ∷ u1 ∷ v1 ∷ v2 ∷ [])
-          (v1 ⋆ middle ∷ o .unit ⋆ valid1 ∷ k1 ⋆ first ∷ []) (search terms depth 60 fits 100000) refl;
-      valid1 = valid1;
-      valid2 = valid2;
-      cancel = cancel;
-    }
+-- The quotients by a common divisor. α comes for nothing: f + v1·v2 = v1·(v1 + v2) + u1·k1.
+pub quotients : {P : Type 0} {o : Ops P} (L : Laws o) {f u1 v1 u2 v2 d : P}
+    → Regular o d → Shared o f u1 v1 u2 v2 d → Represents o f u1 v1 → Represents o f u2 v2
+    → Quotients o f u1 v1 u2 v2 d
+quotients {o = o} L {f} {u1} {v1} {u2} {v2} {d} cancel g (k1, valid1) (k2, valid2) = by (g .divides)
+  where
+    by : Each (Divides o d) (u1 ∷ u2 ∷ o .add v1 v2 ∷ []) → Quotients o f u1 v1 u2 v2 d
+    by ((U1, first), ((U2, second), ((β, middle), _))) =
+        record {
+          U1 = U1;
+          U2 = U2;
+          β = β;
+          α = o .add (o .mul v1 β) (o .mul U1 k1);
+          k1 = k1;
+          k2 = k2;
+          first = first;
+          second = second;
+          middle = middle;
+          cross =
+              by-facts L (d ∷ U1 ∷ β ∷ k1 ∷ f ∷ u1 ∷ v1 ∷ v2 ∷ [])
+              (v1 ⋆ middle ∷ o .unit ⋆ valid1 ∷ k1 ⋆ first ∷ []) (search terms depth 60 fits 100000) refl;
+          valid1 = valid1;
+          valid2 = valid2;
+          cancel = cancel;
+        }
 
-module _ {P : Type 0} {o : Ops P} (L : Laws o) {f u1 v1 u2 v2 : P} (c : Common o f u1 v1 u2 v2) where
+module _ {P : Type 0} {o : Ops P} (L : Laws o) {f u1 v1 u2 v2 : P} {d : P} (c : Quotients o f u1 v1 u2 v2 d) where
   infixl 75 _+_ _-_
   infixl 80 _·_
   open Ops o using (add as _+_, mul as _·_, neg, unit)
-  open Common c using (d, U1, U2, β, α, k1, k2, first, second, middle, cross, valid1, valid2, cancel)
+  open Quotients c using (U1, U2, β, α, k1, k2, first, second, middle, cross, valid1, valid2, cancel)
 
   abbrev _-_ : P → P → P
   _-_ = sub o
@@ -89,8 +90,15 @@ module _ {P : Type 0} {o : Ops P} (L : Laws o) {f u1 v1 u2 v2 : P} (c : Common o
       (β ⋆ α-v1 ∷ α ⋆ α-first ∷ U1 · k1 ⋆ α-second ∷ [])
       (search terms depth 60 fits 100000) refl
 
-  module _ (b : Bezout o f u1 v1 u2 v2 d) where
-    open Bezout b using (e1, e2, e3, bezout)
+  module _ (g : Shared o f u1 v1 u2 v2 d) where
+    abbrev e1 : P
+    e1 = g .factor 0
+
+    abbrev e2 : P
+    e2 = g .factor 1
+
+    abbrev e3 : P
+    e3 = g .factor 2
 
     abbrev cofactors : List P
     cofactors = e1 ∷ e2 ∷ e3 ∷ constants
@@ -99,18 +107,18 @@ module _ {P : Type 0} {o : Ops P} (L : Laws o) {f u1 v1 u2 v2 : P} (c : Common o
     whole =
         cancel (e1 · U1 + e2 · U2 + e3 · β) unit
         (by-facts L cofactors
-        (neg unit ⋆ bezout ∷ neg e1 ⋆ first ∷ neg e2 ⋆ second ∷ neg e3 ⋆ middle ∷ [])
+        (neg unit ⋆ g .combines ∷ neg e1 ⋆ first ∷ neg e2 ⋆ second ∷ neg e3 ⋆ middle ∷ [])
         (search terms depth 60 fits 100000) refl)
 
     -- the v of the rules, up to multiples of u
     abbrev pub ruled : P
     ruled = e1 · U1 · v2 + e2 · U2 · v1 + e3 · α
 
-    pub numerator-divided : numerator o f u1 v1 u2 v2 b ≡ d · ruled
+    pub numerator-divided : numerator o f u1 v1 u2 v2 g ≡ d · ruled
     numerator-divided =
         by-facts L cofactors (e1 · v2 ⋆ first ∷ e2 · v1 ⋆ second ∷ e3 ⋆ cross ∷ []) (search terms depth 60 fits 100000) refl
 
-    ruled-value : (v s : P) → numerator o f u1 v1 u2 v2 b ≡ d · s → (r : Congruent o u v s) → v ≡ ruled + u · r .0
+    ruled-value : (v s : P) → numerator o f u1 v1 u2 v2 g ≡ d · s → (r : Congruent o u v s) → v ≡ ruled + u · r .0
     ruled-value v s e (q, r) = split (cancel ruled s (sym numerator-divided ∙ e)) r
       where
         split : {x : P} → x ≡ s → v - s ≡ u · q → v ≡ x + u · q
@@ -118,7 +126,7 @@ module _ {P : Type 0} {o : Ops P} (L : Laws o) {f u1 v1 u2 v2 : P} (c : Common o
             by-facts L (v ∷ s ∷ q ∷ x ∷ U1 ∷ U2 ∷ []) (neg unit ⋆ h ∷ unit ⋆ k ∷ []) (search terms depth 60 fits 100000) refl
 
     -- The v of the rules meets the three congruences.
-    pub ruled-composite : (v s : P) → numerator o f u1 v1 u2 v2 b ≡ d · s → Congruent o u v s → Composite o f u1 v1 u2 v2 c v
+    pub ruled-composite : (v s : P) → numerator o f u1 v1 u2 v2 g ≡ d · s → Congruent o u v s → Composite o f u1 v1 u2 v2 c v
     ruled-composite v s e r = meets v (r .0) (ruled-value v s e r)
       where
         meets : (v q : P) → v ≡ ruled + u · q → Composite o f u1 v1 u2 v2 c v

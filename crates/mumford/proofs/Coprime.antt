@@ -5,7 +5,7 @@ use mathlib.Core.List.{List, [], _∷_}
 use Rattle.algebra.specs.Ring.{Ops, Laws, sub}
 use Rattle.algebra.specs.Divisibility.{Congruent}
 use Rattle.algebra.proofs.Reify.{_⋆_, by-facts, terms}
-use Rattle.mumford.specs.Composition.{Common, Composite}
+use Rattle.mumford.specs.Composition.{Quotients, Composite}
 use Rattle.mumford.proofs.Congruences as C
 
 module _ {P : Type 0} {o : Ops P} (L : Laws o) where
@@ -17,10 +17,10 @@ module _ {P : Type 0} {o : Ops P} (L : Laws o) where
   _-_ = sub o
 
   -- Where u1 and u2 are coprime, v ≡ v1 modulo u1 and v ≡ v2 modulo u2 are enough.
-  pub sum-composite : {f u1 v1 u2 v2 : P} (c : Common o f u1 v1 u2 v2) → c .d ≡ unit → (e1 e2 : P) → e1 · u1 + e2 · u2 ≡ unit
+  pub sum-composite : {f u1 v1 u2 v2 d : P} (c : Quotients o f u1 v1 u2 v2 d) → d ≡ unit → (e1 e2 : P) → e1 · u1 + e2 · u2 ≡ unit
       → (v : P) → Congruent o u1 v v1 → Congruent o u2 v v2
       → Composite o f u1 v1 u2 v2 c v
-  sum-composite {f} {u1} {v1} {u2} {v2} c one e1 e2 coprime v (s, p) (t, q) =
+  sum-composite {f} {u1} {v1} {u2} {v2} {d} c one e1 e2 coprime v (s, p) (t, q) =
       record {
         at1 = (t, at-U1);
         at2 = (s, at-U2);
@@ -40,7 +40,7 @@ module _ {P : Type 0} {o : Ops P} (L : Laws o) where
         );
       }
     where
-      open Common c using (d, U1, U2, β, α, k1, k2, first, second)
+      open Quotients c using (U1, U2, β, α, k1, k2, first, second)
 
       constants : List P
       constants =
@@ -55,10 +55,10 @@ module _ {P : Type 0} {o : Ops P} (L : Laws o) where
           by-facts L (v ∷ s ∷ t ∷ constants) (U2 ⋆ p ∷ U2 · s ⋆ first ∷ U1 · U2 · s ⋆ one ∷ []) (search terms depth 60 fits 100000) refl
 
   -- Where u and 2·v are coprime, the double has v + s·u with 2·v·s ≡ (f − v²)/u modulo u.
-  pub double-composite : {f u v : P} (c : Common o f u v u v) → c .d ≡ unit
+  pub double-composite : {f u v d : P} (c : Quotients o f u v u v d) → d ≡ unit
       → (s : P) → Congruent o u ((v + v) · s) (c .k1)
       → Composite o f u v u v c (v + s · u)
-  double-composite {f} {u} {v} c one s (t, p) =
+  double-composite {f} {u} {v} {d} c one s (t, p) =
       record {
         at1 =
             (s, by-facts L (s ∷ t ∷ constants) (U1 · s ⋆ second ∷ U1 · U2 · s ⋆ one ∷ []) (search terms depth 60 fits 100000) refl);
@@ -79,7 +79,7 @@ module _ {P : Type 0} {o : Ops P} (L : Laws o) where
         );
       }
     where
-      open Common c using (d, U1, U2, β, α, k1, first, second, middle, cross, valid1)
+      open Quotients c using (U1, U2, β, α, k1, first, second, middle, cross, valid1)
 
       constants : List P
       constants = d ∷ U1 ∷ U2 ∷ β ∷ α ∷ k1 ∷ f ∷ u ∷ v ∷ []
