@@ -207,13 +207,13 @@ module _ {K : Type 0} {o : Ops K} (F : Field o) {P : Type 0} {p : Ops P} (H : Po
       (growth-tends (functions p f .mul g h) (N.product-some F H C g h sg sh))
 
   -- The growth of a polynomial is its degree.
-  pub growth-constant : (a : P) → G (constant p a) ≡ pos (degree p size a)
+  pub growth-constant : (a : P) → G (constant p a) ≡ pos (degree size a)
   unfolding growth
   growth-constant a =
-      ap (λ b. growth-by b (size (a + nil · V)) (degree p size a) (degree p size (norm p f (a, nil)))) (Z.size-nil F H)
+      ap (λ b. growth-by b (size (a + nil · V)) (degree size a) (degree size (norm p f (a, nil)))) (Z.size-nil F H)
 
   pub growth-conjugate : (g : Function P) → g ≢ functions p f .nil
-      → G g +ℤ G (conjugate p g) ≡ pos (degree p size (norm p f g))
+      → G g +ℤ G (conjugate p g) ≡ pos (degree size (norm p f g))
   growth-conjugate g some =
       sym (growth-mul g (conjugate p g) some (conjugate-some g some))
       ∙ ap G (norm-is L f g)

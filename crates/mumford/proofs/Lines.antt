@@ -71,7 +71,7 @@ module _ {K : Type 0} {o : Ops K} (F : Field o) {P : Type 0} {p : Ops P} (H : Po
 
   -- Where V cancels in w + V it does not in w − V, and the norm says what is left.
   pub line-behind : (w : P) → size w ≤ 4 → coefficient w 3 ≡ minus-one
-      → growth p size f V (w, unit) ≡ pos (degree p size (norm p f (w, unit))) -ℤ pos 3
+      → growth p size f V (w, unit) ≡ pos (degree size (norm p f (w, unit))) -ℤ pos 3
   line-behind w l opposite =
       let other =
       ahead w (neg unit) minus-one (Z.size-neg F H unit ∙ Z.size-unit F H) l

@@ -16,4 +16,4 @@ growth-by (suc d) s a n = elim (decLe (suc d) s) [ yes l ↦ pos (pred s) | no l
 -- The growth of a function that is not 0.
 unfoldable pub growth : {P : Type 0} → Ops P → (P → ℕ) → P → P → Function P → ℤ
 growth p size f V g =
-    growth-by (size (g .1)) (size (p .add (g .0) (p .mul (g .1) V))) (degree p size (g .0)) (degree p size (norm p f g))
+    growth-by (size (g .1)) (size (p .add (g .0) (p .mul (g .1) V))) (degree size (g .0)) (degree size (norm p f g))

@@ -5,3 +5,5 @@ pub mod Composition
 pub mod Reduction
 pub mod Curve
 pub mod Growth
+pub mod Addition
+pub mod Settling
