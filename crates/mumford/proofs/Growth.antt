@@ -102,7 +102,8 @@ module _ {K : Type 0} {o : Ops K} (F : Field o) {P : Type 0} {p : Ops P} (H : Po
     covalue-size : size covalue ≡ d +ᴺ n +ᴺ 4
     covalue-size =
         let q = X n · V in
-        let twice = N.size-twice F H q (X-times n V (C .V-size)) in
+        let shifted = X-times n V (C .V-size) in
+        let twice = Z.size-twice F H q in
         let near = Z.size-add-larger F H (q + q) (W n - q) (omega (arith, T.approx-near F H C n)) in
         let large = Z.size-mul F H {m = d} {n = n +ᴺ 3} b (q + q + (W n - q)) hb (omega arith) in
         let small = Z.size-mul-most F H {m = n} {n = d} (X n) (a + b · V) (omega (arith, Z.size-power F H n)) hs in

@@ -11,3 +11,6 @@ pub mod Approximation
 pub mod Norm
 pub mod Growth
 pub mod Lines
+pub mod Degrees
+pub mod Composed
+pub mod Reduced

@@ -13,7 +13,6 @@ use Rattle.algebra.specs.Ring.{Ops, Laws, sub}
 use Rattle.algebra.specs.Field.{Field}
 use Rattle.algebra.specs.Polynomials.{Polynomials}
 use Rattle.algebra.proofs.Reify.{by-ring, by-facts, _⋆_, terms}
-use Rattle.algebra.proofs.Degree as D
 use Rattle.algebra.proofs.Elementary as R
 use Rattle.algebra.proofs.PolynomialRing as A
 use Rattle.algebra.proofs.Size as Z
@@ -21,16 +20,6 @@ use Rattle.algebra.proofs.Squarefree as Q
 use Rattle.mumford.specs.Functions.{Function, functions, norm}
 use Rattle.mumford.specs.Curve.{Curve}
 use Rattle.mumford.proofs.Functions.{both, norm-mul}
-
-module _ {K : Type 0} {o : Ops K} (F : Field o) {P : Type 0} {p : Ops P} (H : Polynomials o p) where
-  infixl 75 _+_
-  open Ops p using (add as _+_)
-  open Polynomials H using (size, add-is)
-
-  -- 2 is not 0
-  pub size-twice : {n : ℕ} (a : P) → size a ≡ suc n → size (a + a) ≡ suc n
-  size-twice a e =
-      Z.degree-size F H (a + a) (D.degree-same F (sym (add-is a a)) (D.degree-twice F (Z.size-degree F H a e)))
 
 module _ {K : Type 0} {o : Ops K} (F : Field o) {P : Type 0} {p : Ops P} (H : Polynomials o p) {f V : P} (C : Curve H f V) where
   infixl 75 _+_ _-_
@@ -105,7 +94,8 @@ module _ {K : Type 0} {o : Ops K} (F : Field o) {P : Type 0} {p : Ops P} (H : Po
       let t = a + neg b · V in
       let hs : n < size s = not-small a b ih hb e in
       let ht : n < size t = not-small a (neg b) ih (Z.size-neg F H b ∙ hb) (norm-neg a b f ∙ e) in
-      let apart = size-twice F H (b · V) (Z.size-mul F H {m = n} {n = 3} b V hb (C .V-size)) in
+      let bV = Z.size-mul F H {m = n} {n = 3} b V hb (C .V-size) in
+      let apart = Z.size-twice F H (b · V) in
       let wide = Z.size-sub F H {n = max (size s) (size t)} s t (omega arith) (omega arith) in
       let square = Z.size-mul F H {m = n} {n = n} b b hb hb in
       let narrow = Z.size-mul-most F H {m = n +ᴺ n} {n = 3} (b · b) (f - V · V) (omega arith) (C .close) in

@@ -16,14 +16,14 @@ pub record Remainder {K : Type 0} {o : Ops K} {P : Type 0} {p : Ops P} (H : Poly
   pub congruent : Congruent p u r a
   pub smaller : H .size r < H .size u
 
-module _ {K : Type 0} {o : Ops K} {P : Type 0} {p : Ops P} (H : Polynomials o p) (f V : P) where
+module _ {K : Type 0} {o : Ops K} {P : Type 0} {p : Ops P} (H : Polynomials o p) where
   infixl 75 _+_
   infixl 80 _·_
   open Ops p using (add as _+_, mul as _·_, neg)
 
   -- S is the composite of D and E: with the monic greatest common divisor d = e1·u1 + e2·u2 + e3·(v1 + v2), u is u1·u2/d², v
   -- the remainder by u of (e1·u1·v2 + e2·u2·v1 + e3·(v1·v2 + f))/d, and n is n1 + n2 + deg d − 1.
-  pub record Composed (D E S : Divisor P) : Type 0 where
+  pub record Composed (f : P) (D E S : Divisor P) : Type 0 where
     pub d : P
     pub monic : Monic H d
     pub shared : Shared p f (D .u) (D .v) (E .u) (E .v) d
@@ -35,14 +35,14 @@ module _ {K : Type 0} {o : Ops K} {P : Type 0} {p : Ops P} (H : Polynomials o p)
 
   -- The w of a step from D: v, where deg u = 4; else −V and the remainder of v + V by u, where n < 0; else V and the remainder
   -- of v − V by u.
-  pub data Chosen (D : Divisor P) : P → Type 0 where
-    plain : H .size (D .u) ≡ 5 → Chosen D (D .v)
-    below : {r : P} → H .size (D .u) ≤ 4 → D .n <ℤ pos 0 → Remainder H (D .v + V) (D .u) r → Chosen D (neg V + r)
-    above : {r : P} → H .size (D .u) ≤ 4 → pos 0 ≤ℤ D .n → Remainder H (sub p (D .v) V) (D .u) r → Chosen D (V + r)
+  pub data Chosen (V : P) (D : Divisor P) : P → Type 0 where
+    plain : H .size (D .u) ≡ 5 → Chosen V D (D .v)
+    below : {r : P} → H .size (D .u) ≤ 4 → D .n <ℤ pos 0 → Remainder H (D .v + V) (D .u) r → Chosen V D (neg V + r)
+    above : {r : P} → H .size (D .u) ≤ 4 → pos 0 ≤ℤ D .n → Remainder H (sub p (D .v) V) (D .u) r → Chosen V D (V + r)
 
   -- S comes from D by the step with w: u′ is (f − w²)/u made monic, v′ the remainder of −w by u′, and n′ is 2 − deg u′ if the
   -- x³ coefficient of w is −1, otherwise 0.
-  pub record Reduced (D S : Divisor P) (w : P) : Type 0 where
+  pub record Reduced (f : P) (D S : Divisor P) (w : P) : Type 0 where
     pub monic : Monic H (S .u)
     pub κ : K
     pub u-is : sub p f (w · w) ≡ D .u · (constant H κ · S .u)
@@ -50,6 +50,7 @@ module _ {K : Type 0} {o : Ops K} {P : Type 0} {p : Ops P} (H : Polynomials o p)
     pub n-opposite : H .coefficient w 3 ≡ o .neg (o .unit) → S .n ≡ pos 2 -ℤ pos (degree (H .size) (S .u))
     pub n-other : H .coefficient w 3 ≢ o .neg (o .unit) → S .n ≡ pos 0
 
-  pub data Sum (D E : Divisor P) : Divisor P → Type 0 where
-    composed : {S : Divisor P} → Composed D E S → InRange (H .size) S → Sum D E S
-    reduced : {T S : Divisor P} {w : P} → Composed D E T → ¬ InRange (H .size) T → Chosen T w → Reduced T S w → Sum D E S
+  -- S is the sum of D and E: their composite where that is in range, and otherwise what one step makes of it.
+  pub data Sum (f V : P) (D E : Divisor P) : Divisor P → Type 0 where
+    composed : {S : Divisor P} → Composed f D E S → InRange (H .size) S → Sum f V D E S
+    reduced : {T S : Divisor P} {w : P} → Composed f D E T → ¬ InRange (H .size) T → Chosen V T w → Reduced f T S w → Sum f V D E S
