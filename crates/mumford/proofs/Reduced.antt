@@ -102,6 +102,50 @@ module _ {K : Type 0} {o : Ops K} (F : Field o) {P : Type 0} {p : Ops P} (H : Po
           let su = Z.divisor-some F H (q, is) some in
           (q, is, sq, omega (arith, ap size is, Z.size-mul-some F H (D .u) q su sq, chosen-most l c))
 
+  -- Where a step is due and n is at least −1 and at most 3 − deg u, n is −1 if the x³ coefficient of w is −1, and otherwise
+  -- n + deg u is 3.
+  abbrev opposite : P → Type 0
+  opposite w = coefficient w 3 ≡ o .neg (o .unit)
+
+  remainder-gone : {a u r : P} → size u ≤ 4 → Remainder H a u r → coefficient r 3 ≡ o .nil
+  remainder-gone {r = r} l m = ends r 3 (omega (arith, m .smaller))
+
+  below-opposite : {a u r : P} → size u ≤ 4 → Remainder H a u r → opposite (neg V + r)
+  below-opposite {r = r} l m =
+      A.add-at F H (neg V) r 3
+      ∙ ap₂ (o .add) (A.neg-at F H V 3 ∙ ap (o .neg) (C .V-top)) (remainder-gone l m)
+      ∙ F .laws .add-nil (o .neg (o .unit))
+
+  above-other : {a u r : P} → size u ≤ 4 → Remainder H a u r → ¬ opposite (V + r)
+  above-other {r = r} l m e = F .two (two (o .unit) (sym (at-3) ∙ e))
+    where
+      at-3 : coefficient (V + r) 3 ≡ o .unit
+      at-3 =
+          A.add-at F H V r 3 ∙ ap₂ (o .add) (C .V-top) (remainder-gone l m) ∙ F .laws .add-nil (o .unit)
+
+      two : (c : K) → c ≡ o .neg (o .unit) → o .add c (o .unit) ≡ o .nil
+      two c h = by-facts (F .laws) (c ∷ []) (o .unit ⋆ h ∷ []) (search terms depth 60 fits 100000) refl
+
+  pub record Due (D : Divisor P) (w : P) : Type 0 where
+    pub at-opposite : opposite w → D .n ≡ negsuc 0
+    pub at-other : ¬ opposite w → D .n +ℤ pos (degree size (D .u)) ≡ pos 3
+
+  chosen-due : {D : Divisor P} {w : P} → D .u ≢ nil → negsuc 0 ≤ℤ D .n → (D .n +ℤ pos (degree size (D .u))) ≤ℤ pos 3
+      → ¬ InRange size D → Chosen H V D w → Due D w
+  chosen-due {D} some least most out (plain e) =
+      let four = size-degree F H (D .u) some in
+      record { at-opposite = λ _. omega (arith, ints); at-other = λ _. omega (arith, ints) }
+  chosen-due {D} some least most out (below l n m) =
+      record { at-opposite = λ _. omega (arith, ints); at-other = λ h. absurd (h (below-opposite l m)) }
+  chosen-due {D} some least most out (above l n m) =
+      record {
+        at-opposite = λ h. absurd (above-other l m h);
+        at-other =
+            λ _.
+            by-ltZ (pos 2) (D .n +ℤ pos (degree size (D .u))) (λ h. omega (arith, ints))
+            (λ h. absurd (out (record { u-most = omega (arith, ints, size-degree F H (D .u) some); n-least = n; n-most = h })));
+      }
+
   module _ {D S : Divisor P} {w : P} (represents : Represents p f (D .u) (D .v)) (smaller : size (D .v) < size (D .u))
       (chosen : Chosen H V D w) (r : Reduced H f D S w) where
     open Reduced r using (monic, κ, u-is, v-is, n-opposite, n-other)
@@ -184,3 +228,14 @@ module _ {K : Type 0} {o : Ops K} (F : Field o) {P : Type 0} {p : Ops P} (H : Po
           range = range (F .same? (coefficient w 3) (o .neg (o .unit)));
           represents = after-valid L D S reduced-step;
         }
+
+    -- n′ + growth (y + w) = n + deg u
+    pub reduced-growth : negsuc 0 ≤ℤ D .n → (D .n +ℤ pos (degree size (D .u))) ≤ℤ pos 3 → ¬ InRange size D
+        → S .n +ℤ growth p size f V (w, unit) ≡ D .n +ℤ pos (degree size (D .u))
+    reduced-growth least most out =
+        let due = chosen-due u-some least most out chosen in
+        elim (F .same? (coefficient w 3) (o .neg (o .unit))) [
+          | yes e ↦
+              omega (arith, ints, n-opposite e, due .at-opposite e, reduced-degree, Y.line-behind F H C w (chosen-size smaller chosen) e)
+          | no e ↦ omega (arith, ints, n-other e, due .at-other e, Y.line-ahead F H C w (chosen-size smaller chosen) e)
+        ]
