@@ -16,7 +16,7 @@ use Rattle.mumford.proofs.Norm as N
 
 module _ {K : Type 0} {o : Ops K} (F : Field o) {P : Type 0} {p : Ops P} (H : Polynomials o p) where
   infixl 80 _·_
-  open Ops p using (mul as _·_, nil)
+  open Ops p using (mul as _·_, nil, unit)
   open Polynomials H using (size)
 
   pub size-degree : (a : P) → a ≢ nil → size a ≡ suc (degree size a)
@@ -24,6 +24,9 @@ module _ {K : Type 0} {o : Ops K} (F : Field o) {P : Type 0} {p : Ops P} (H : Po
     where
       one-more : (n : ℕ) → 0 < n → n ≡ suc (pred n)
       one-more n l = omega arith
+
+  pub degree-unit : degree size unit ≡ 0
+  degree-unit = ap pred (Z.size-unit F H)
 
   pub degree-mul : (a b : P) → a ≢ nil → b ≢ nil → degree size (a · b) ≡ degree size a + degree size b
   degree-mul a b sa sb =

@@ -14,3 +14,6 @@ pub mod Lines
 pub mod Degrees
 pub mod Composed
 pub mod Reduced
+pub mod Addition
+pub mod Settled
+pub mod Settling
