@@ -1,5 +1,5 @@
--- The neutral divisor is valid, and so are negatives and sums of valid divisors.
-use mathlib.Core.Path.{refl}
+-- The neutral divisor is valid, and so are negatives and sums of valid divisors; and two divisors have one sum.
+use mathlib.Core.Path.{_≡_, refl, subst}
 use mathlib.Core.List.{[], _∷_}
 use native.Mathlib.Omega.{arith}
 use Rattle.std.proofs.shelf.Signed.{ints}
@@ -11,9 +11,9 @@ use Rattle.algebra.proofs.PolynomialRing as A
 use Rattle.algebra.proofs.Size as Z
 use Rattle.algebra.proofs.Monic as M
 use Rattle.mumford.specs.Functions.{Represents}
-use Rattle.mumford.specs.Divisors.{Divisor, neutral, degree, negative, Valid}
+use Rattle.mumford.specs.Divisors.{Divisor, neutral, negative, InRange, Valid}
 use Rattle.mumford.specs.Curve.{Curve}
-use Rattle.mumford.specs.Addition.{Sum, composed, reduced}
+use Rattle.mumford.specs.Addition.{Chosen, Reduced, Sum, composed, reduced}
 use Rattle.mumford.proofs.Degrees.{degree-unit}
 use Rattle.mumford.proofs.Composed as C
 use Rattle.mumford.proofs.Reduced as R
@@ -64,3 +64,14 @@ module _ {K : Type 0} {o : Ops K} (F : Field o) {P : Type 0} {p : Ops P} (H : Po
       }
   sum-valid curve hD hE (reduced c out chosen r) =
       R.reduced-valid F H curve (C.composed-represents F H hD hE c) (c .v-is .smaller) chosen r
+
+  pub sum-unique : {f V : P} → Curve H f V → {D E S T : Divisor P} → Valid H f D → Valid H f E
+      → Sum H f V D E S → Sum H f V D E T → S ≡ T
+  sum-unique curve hD hE (composed c range) (composed d range′) = C.composed-unique F H hD hE c d
+  sum-unique curve hD hE (composed c range) (reduced d out chosen r) =
+      absurd (out (subst (InRange size) (C.composed-unique F H hD hE c d) range))
+  sum-unique curve hD hE (reduced c out chosen r) (composed d range) =
+      absurd (out (subst (InRange size) (C.composed-unique F H hD hE d c) range))
+  sum-unique {f} {V} curve {T = T} hD hE (reduced c out chosen r) (reduced {w = w} d out′ chosen′ r′) =
+      let same = C.composed-unique F H hD hE d c in
+      R.reduced-unique F H curve chosen (subst (λ B. Chosen H V B w) same chosen′) r (subst (λ B. Reduced H f B T w) same r′)

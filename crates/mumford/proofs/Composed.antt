@@ -13,6 +13,7 @@ use Rattle.algebra.specs.Field.{Field}
 use Rattle.algebra.specs.Divisibility.{Regular, Divides, Congruent}
 use Rattle.algebra.specs.CommonDivisor.{Each}
 use Rattle.algebra.specs.Polynomials.{Polynomials, leading, Monic}
+use Rattle.algebra.specs.Division.{Divided}
 use Rattle.algebra.proofs.Reify.{by-facts, _⋆_, terms}
 use Rattle.algebra.proofs.Regular as R
 use Rattle.algebra.proofs.PolynomialRing as A
@@ -25,6 +26,7 @@ use Rattle.mumford.specs.Divisors.{Divisor, degree, Valid}
 use Rattle.mumford.specs.Composition.{Shared, numerator, Quotients, Composite}
 use Rattle.mumford.specs.Addition.{Composed, Remainder}
 use Rattle.mumford.proofs.Congruences as C
+use Rattle.mumford.proofs.Remainders.{exact-quotient, remainder-of}
 use Rattle.mumford.proofs.Degrees.{degree-mul}
 
 module _ {K : Type 0} {o : Ops K} (F : Field o) {P : Type 0} {p : Ops P} (H : Polynomials o p) {f : P} {D E : Divisor P}
@@ -53,6 +55,10 @@ module _ {K : Type 0} {o : Ops K} (F : Field o) {P : Type 0} {p : Ops P} (H : Po
     pub square-divides : Divides p (d · d) (u1 · u2)
     square-divides = (quotients .U1 · quotients .U2, C.common-square L quotients)
 
+    u-by-quotients : {u : P} → u1 · u2 ≡ d · d · u → u ≡ quotients .U1 · quotients .U2
+    u-by-quotients {u} e =
+        R.regular-mul L d d cancel cancel u (quotients .U1 · quotients .U2) (sym e ∙ C.common-square L quotients)
+
     pub numerator-divides : Divides p d (numerator p f u1 v1 u2 v2 g)
     numerator-divides = (C.ruled L quotients g, C.numerator-divided L quotients g)
 
@@ -63,9 +69,7 @@ module _ {K : Type 0} {o : Ops K} (F : Field o) {P : Type 0} {p : Ops P} (H : Po
     q = quotients monic shared
 
     pub composed-u : S .u ≡ q .U1 · q .U2
-    composed-u =
-        R.regular-mul L d d (cancel monic shared) (cancel monic shared) (S .u) (q .U1 · q .U2)
-        (sym u-is ∙ C.common-square L q)
+    composed-u = u-by-quotients monic shared u-is
 
     pub composed-composite : Composite p f u1 v1 u2 v2 q (S .v)
     composed-composite =
@@ -101,7 +105,7 @@ module _ {K : Type 0} {o : Ops K} (F : Field o) {P : Type 0} {p : Ops P} (H : Po
 
   -- What meets the three congruences is the composite.
   pub composite-composed : {d : P} (monic : Monic H d) (g : Shared p f u1 v1 u2 v2 d) {S : Divisor P}
-      → S .u ≡ quotients monic g .U1 · quotients monic g .U2 → Composite p f u1 v1 u2 v2 (quotients monic g) (S .v)
+      → u1 · u2 ≡ d · d · S .u → Composite p f u1 v1 u2 v2 (quotients monic g) (S .v)
       → size (S .v) < size (S .u) → S .n ≡ D .n +ℤ E .n +ℤ pos (degree size d) -ℤ pos 1
       → Composed H f D E S
   composite-composed {d} monic g {S} u-is k smaller n-is =
@@ -109,22 +113,42 @@ module _ {K : Type 0} {o : Ops K} (F : Field o) {P : Type 0} {p : Ops P} (H : Po
         d = d;
         monic = monic;
         shared = g;
-        u-is = C.common-square L (quotients monic g) ∙ ap (λ u. d · d · u) (sym u-is);
-        s = C.ruled L (quotients monic g) g;
-        s-is = C.numerator-divided L (quotients monic g) g;
+        u-is = u-is;
+        s = C.ruled L q g;
+        s-is = C.numerator-divided L q g;
         v-is =
             record {
               congruent =
-                  subst (λ u. Congruent p u (S .v) (C.ruled L (quotients monic g) g)) (sym u-is)
-                  (less (C.composite-value L (quotients monic g) g (S .v) k));
+                  subst (λ u. Congruent p u (S .v) (C.ruled L q g)) (sym (u-by-quotients monic g u-is))
+                  (less (C.composite-value L q g (S .v) k));
               smaller = smaller;
             };
         n-is = n-is;
       }
     where
+      q : Q d
+      q = quotients monic g
+
       less : {u s v : P} → (t : P) × (v ≡ s + u · t) → Congruent p u v s
       less {u} {s} {v} (t, e) =
           (t, by-facts L (u ∷ s ∷ v ∷ t ∷ []) (unit ⋆ e ∷ []) (search terms depth 60 fits 100000) refl)
+
+  -- The composite as it is computed, by three divisions.
+  pub divided-composed : {d : P} (monic : Monic H d) (g : Shared p f u1 v1 u2 v2 d)
+      → (t : Divided H (u1 · u2) (d · d)) (s : Divided H (numerator p f u1 v1 u2 v2 g) d) (r : Divided H (s .quotient) (t .quotient))
+      → Composed H f D E
+      (record { u = t .quotient; v = r .remainder; n = D .n +ℤ E .n +ℤ pos (degree size d) -ℤ pos 1 })
+  divided-composed {d} monic g t s r =
+      record {
+        d = d;
+        monic = monic;
+        shared = g;
+        u-is = exact-quotient F H t (square-divides monic g);
+        s = s .quotient;
+        s-is = exact-quotient F H s (numerator-divides monic g);
+        v-is = remainder-of F H r;
+        n-is = refl;
+      }
 
   -- Whatever combination gives d, the composite is the same.
   pub composed-unique : {S T : Divisor P} → Composed H f D E S → Composed H f D E T → S ≡ T
@@ -143,9 +167,7 @@ module _ {K : Type 0} {o : Ops K} (F : Field o) {P : Type 0} {p : Ops P} (H : Po
       other = record { divides = shared .divides; factor = t .shared .factor; combines = same-d ∙ t .shared .combines }
 
       u-is : T .u ≡ q .U1 · q .U2
-      u-is =
-          R.regular-mul L d d (cancel monic shared) (cancel monic shared) (T .u) (q .U1 · q .U2)
-          (ap (λ e. e · e · T .u) same-d ∙ sym (t .u-is) ∙ C.common-square L q)
+      u-is = u-by-quotients monic shared (t .u-is ∙ ap (λ e. e · e · T .u) (sym same-d))
 
       same-u : S .u ≡ T .u
       same-u = composed-u c ∙ sym u-is

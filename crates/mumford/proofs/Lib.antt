@@ -12,6 +12,7 @@ pub mod Norm
 pub mod Growth
 pub mod Lines
 pub mod Degrees
+pub mod Remainders
 pub mod Composed
 pub mod Reduced
 pub mod Addition

@@ -11,7 +11,8 @@ use Rattle.std.proofs.shelf.Signed.{ints, by-ltZ}
 use Rattle.algebra.specs.Ring.{Ops, Laws, sub}
 use Rattle.algebra.specs.Field.{Field}
 use Rattle.algebra.specs.Divisibility.{Divides, Congruent}
-use Rattle.algebra.specs.Polynomials.{Polynomials, constant, leading}
+use Rattle.algebra.specs.Polynomials.{Polynomials, constant, leading, Monic}
+use Rattle.algebra.specs.Division.{Divided}
 use Rattle.algebra.proofs.Reify.{by-ring, by-facts, _⋆_, terms}
 use Rattle.algebra.proofs.Elementary as R
 use Rattle.algebra.proofs.PolynomialRing as A
@@ -25,6 +26,7 @@ use Rattle.mumford.specs.Reduction.{Step}
 use Rattle.mumford.specs.Addition.{Remainder, Chosen, plain, below, above, Reduced}
 use Rattle.mumford.proofs.Reduction.{after-valid}
 use Rattle.mumford.proofs.Degrees.{size-degree, degree-mul}
+use Rattle.mumford.proofs.Remainders.{exact-quotient, remainder-of, remainder-unique}
 use Rattle.mumford.proofs.Norm as N
 use Rattle.mumford.proofs.Lines as Y
 
@@ -84,22 +86,22 @@ module _ {K : Type 0} {o : Ops K} (F : Field o) {P : Type 0} {p : Ops P} (H : Po
       around (neg V) r minus-square (omega (arith, Z.size-neg F H V, C .V-size)) (m .smaller) h
   chosen-most l (above {r = r} h n m) = around V r refl (omega (arith, C .V-size)) (m .smaller) h
 
+  difference-some : (w : P) → f - w · w ≢ nil
+  difference-some w z = N.f-no-square F H C w (R.eq-of-sub p L f (w · w) z)
+
   -- So u divides f − w², which is not 0, and leaves a quotient of degree at most 2.
   pub chosen-quotient : {D : Divisor P} {w : P} → Represents p f (D .u) (D .v) → size (D .v) < size (D .u) → Chosen H V D w
       → (q : P) × (f - w · w ≡ D .u · q) × (q ≢ nil) × (size q ≤ 3)
   chosen-quotient {D} {w} (k, e) l c = go (chosen-congruent c)
     where
-      some : f - w · w ≢ nil
-      some z = N.f-no-square F H C w (R.eq-of-sub p L f (w · w) z)
-
       go : Congruent p (D .u) w (D .v) → (q : P) × (f - w · w ≡ D .u · q) × (q ≢ nil) × (size q ≤ 3)
       go (t, h) =
           let q = k - t · (w + D .v) in
           let is : f - w · w ≡ D .u · q =
           by-facts L (f ∷ w ∷ D .u ∷ D .v ∷ k ∷ t ∷ []) (unit ⋆ e ∷ neg (w + D .v) ⋆ h ∷ []) (search terms depth 60 fits 100000) refl
           in
-          let sq = Z.cofactor-some F H is some in
-          let su = Z.divisor-some F H (q, is) some in
+          let sq = Z.cofactor-some F H is (difference-some w) in
+          let su = Z.divisor-some F H (q, is) (difference-some w) in
           (q, is, sq, omega (arith, ap size is, Z.size-mul-some F H (D .u) q su sq, chosen-most l c))
 
   -- Where a step is due and n is at least −1 and at most 3 − deg u, n is −1 if the x³ coefficient of w is −1, and otherwise
@@ -146,22 +148,41 @@ module _ {K : Type 0} {o : Ops K} (F : Field o) {P : Type 0} {p : Ops P} (H : Po
             (λ h. absurd (out (record { u-most = omega (arith, ints, size-degree F H (D .u) some); n-least = n; n-most = h })));
       }
 
+  -- The step as it is computed, by two divisions.
+  pub divided-reduced : {D S : Divisor P} {w : P} → Represents p f (D .u) (D .v) → size (D .v) < size (D .u) → Chosen H V D w
+      → (t : Divided H (f - w · w) (D .u)) (r : Divided H (neg w) (S .u))
+      → S .u ≡ M.monic-of F H (t .quotient) → S .v ≡ r .remainder
+      → (opposite w → S .n ≡ pos 2 -ℤ pos (degree size (S .u))) → (¬ opposite w → S .n ≡ pos 0)
+      → Reduced H f D S w
+  divided-reduced {D} {S} {w} represents smaller chosen t r u-is v-is n-opposite n-other =
+      let (q, is, _, _) = chosen-quotient represents smaller chosen in
+      let exact = exact-quotient F H t (q, is) in
+      let some : t .quotient ≢ nil = Z.cofactor-some F H exact (difference-some w) in
+      record {
+        monic = ap (leading H) u-is ∙ M.monic-of-monic F H (t .quotient) some;
+        κ = leading H (t .quotient);
+        u-is =
+            exact
+            ∙ ap (λ a. D .u · a)
+            (M.monic-of-back F H (t .quotient) some ∙ ap (λ a. constant H (leading H (t .quotient)) · a) (sym u-is));
+        v-is = subst (Remainder H (neg w) (S .u)) (sym v-is) (remainder-of F H r);
+        n-opposite = n-opposite;
+        n-other = n-other;
+      }
+
   module _ {D S : Divisor P} {w : P} (represents : Represents p f (D .u) (D .v)) (smaller : size (D .v) < size (D .u))
       (chosen : Chosen H V D w) (r : Reduced H f D S w) where
     open Reduced r using (monic, κ, u-is, v-is, n-opposite, n-other)
 
-    f-w² : f - w · w ≢ nil
-    f-w² z = N.f-no-square F H C w (R.eq-of-sub p L f (w · w) z)
-
     u-some : D .u ≢ nil
-    u-some = Z.divisor-some F H (constant H κ · S .u, u-is) f-w²
+    u-some = Z.divisor-some F H (constant H κ · S .u, u-is) (difference-some w)
 
     u′-some : S .u ≢ nil
     u′-some = M.monic-some F H (S .u) monic
 
     κ-some : κ ≢ o .nil
     κ-some z =
-        M.leading-some F H (constant H κ · S .u) (Z.cofactor-some F H {u = D .u} u-is f-w²)
+        M.leading-some F H (constant H κ · S .u) (Z.cofactor-some F H {u = D .u} u-is (difference-some w))
         (M.leading-mul F H (constant H κ) (S .u)
         ∙ ap (λ c. o .mul c (leading H (S .u))) (M.leading-constant F H κ ∙ z)
         ∙ R.nil-mul o (F .laws) (leading H (S .u)))
@@ -187,7 +208,7 @@ module _ {K : Type 0} {o : Ops K} (F : Field o) {P : Type 0} {p : Ops P} (H : Po
           arith,
           κ-size,
           ap size u-is,
-          Z.size-mul-some F H (D .u) (constant H κ · S .u) u-some (Z.cofactor-some F H {u = D .u} u-is f-w²),
+          Z.size-mul-some F H (D .u) (constant H κ · S .u) u-some (Z.cofactor-some F H {u = D .u} u-is (difference-some w)),
           chosen-most smaller chosen,
         )
 
@@ -196,7 +217,7 @@ module _ {K : Type 0} {o : Ops K} (F : Field o) {P : Type 0} {p : Ops P} (H : Po
         ap (degree size) (minus f w)
         ∙ ap pred (Z.size-neg F H (f - w · w))
         ∙ ap (degree size) u-is
-        ∙ degree-mul F H (D .u) (constant H κ · S .u) u-some (Z.cofactor-some F H {u = D .u} u-is f-w²)
+        ∙ degree-mul F H (D .u) (constant H κ · S .u) u-some (Z.cofactor-some F H {u = D .u} u-is (difference-some w))
         ∙ ap (λ n. degree size (D .u) +ᴺ pred n) κ-size
       where
         minus : (f w : P) → w · w - unit · unit · f ≡ neg (f - w · w)
@@ -239,3 +260,48 @@ module _ {K : Type 0} {o : Ops K} (F : Field o) {P : Type 0} {p : Ops P} (H : Po
               omega (arith, ints, n-opposite e, due .at-opposite e, reduced-degree, Y.line-behind F H C w (chosen-size smaller chosen) e)
           | no e ↦ omega (arith, ints, n-other e, due .at-other e, Y.line-ahead F H C w (chosen-size smaller chosen) e)
         ]
+
+  -- The step leads to one divisor alone.
+
+  chosen-unique : {D : Divisor P} {w x : P} → Chosen H V D w → Chosen H V D x → w ≡ x
+  chosen-unique (plain e) (plain k) = refl
+  chosen-unique (plain e) (below l n m) = absurd (omega arith)
+  chosen-unique (plain e) (above l n m) = absurd (omega arith)
+  chosen-unique (below l n m) (plain e) = absurd (omega arith)
+  chosen-unique (below l n m) (below l′ n′ m′) = ap (_+_ (neg V)) (remainder-unique F H m m′)
+  chosen-unique (below l n m) (above l′ n′ m′) = absurd (omega (arith, ints))
+  chosen-unique (above l n m) (plain e) = absurd (omega arith)
+  chosen-unique (above l n m) (below l′ n′ m′) = absurd (omega (arith, ints))
+  chosen-unique (above l n m) (above l′ n′ m′) = ap (_+_ V) (remainder-unique F H m m′)
+
+  -- a constant times a monic polynomial tells both
+  scaled-unique : (κ c : K) (a b : P) → Monic H a → Monic H b → constant H κ · a ≢ nil → constant H κ · a ≡ constant H c · b → a ≡ b
+  scaled-unique κ c a b ma mb some e =
+      Z.regular F H (constant H κ) (Z.divisor-some F H (a, refl) some) a b
+      (e ∙ ap (λ k. constant H k · b) (sym (lead c b mb) ∙ sym (ap (leading H) e) ∙ lead κ a ma))
+    where
+      lead : (k : K) (m : P) → Monic H m → leading H (constant H k · m) ≡ k
+      lead k m h =
+          M.leading-mul F H (constant H k) m ∙ ap₂ (o .mul) (M.leading-constant F H k) h ∙ F .laws .mul-unit k
+
+  reduced-same : {D S T : Divisor P} {w : P} → Reduced H f D S w → Reduced H f D T w → S ≡ T
+  reduced-same {D} {S} {T} {w} r t = λ i. record { u = same-u i; v = same-v i; n = same-n i }
+    where
+      same-u : S .u ≡ T .u
+      same-u =
+          scaled-unique (r .κ) (t .κ) (S .u) (T .u) (r .monic) (t .monic) (Z.cofactor-some F H {u = D .u} (r .u-is) (difference-some w))
+          (Z.regular F H (D .u) (Z.divisor-some F H (constant H (r .κ) · S .u, r .u-is) (difference-some w)) (constant H (r .κ) · S .u)
+          (constant H (t .κ) · T .u) (sym (r .u-is) ∙ t .u-is))
+
+      same-v : S .v ≡ T .v
+      same-v = remainder-unique F H (subst (λ u. Remainder H (neg w) u (S .v)) same-u (r .v-is)) (t .v-is)
+
+      same-n : S .n ≡ T .n
+      same-n =
+          elim (F .same? (coefficient w 3) (o .neg (o .unit))) [
+            | yes e ↦ r .n-opposite e ∙ ap (λ u. pos 2 -ℤ pos (degree size u)) same-u ∙ sym (t .n-opposite e)
+            | no e ↦ r .n-other e ∙ sym (t .n-other e)
+          ]
+
+  pub reduced-unique : {D S T : Divisor P} {w x : P} → Chosen H V D w → Chosen H V D x → Reduced H f D S w → Reduced H f D T x → S ≡ T
+  reduced-unique {D} {S} {T} c d r t = reduced-same r (subst (Reduced H f D T) (chosen-unique d c) t)
