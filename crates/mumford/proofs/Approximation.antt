@@ -1,5 +1,5 @@
 -- Polynomials near x^n·√f: V₀ = V, and V₍ₙ₊₁₎ = x·Vₙ + c with the constant c that cancels one more coefficient.
-use mathlib.Core.Path.{_≡_, refl, sym, _∙_, ap, ap₂, subst}
+use mathlib.Core.Path.{_≡_, refl, _∙_, ap, ap₂, subst}
 use mathlib.Core.List.{[], _∷_}
 use Prim.Native.Nat.{ℕ, zero, suc, _≤_, _+_ as _+ᴺ_}
 use native.Mathlib.Omega.{arith}

@@ -1,17 +1,15 @@
 -- The composite of two divisors: it is well defined whatever combination gives d, its u is monic and divides f − v², and its
 -- degree and n are what those of the two divisors make.
-use mathlib.Core.Path.{_≡_, refl, sym, _∙_, ap, ap₂, subst}
-use mathlib.Core.Logic.{_≢_}
+use mathlib.Core.Path.{_≡_, refl, sym, _∙_, ap, subst}
 use mathlib.Core.List.{[], _∷_}
-use Prim.Native.Nat.{ℕ, suc, pred, _≤_, _<_, _+_ as _+ᴺ_}
+use Prim.Native.Nat.{_<_, _+_ as _+ᴺ_}
 use native.Mathlib.Omega.{arith}
-use lib.IntN.{ℤ, pos, negsuc, _+ℤ_, _-ℤ_}
+use lib.IntN.{pos, negsuc, _+ℤ_, _-ℤ_}
 use lib.Signed.{_≤ℤ_}
 use Rattle.std.proofs.shelf.Signed.{ints}
 use Rattle.algebra.specs.Ring.{Ops, Laws}
 use Rattle.algebra.specs.Field.{Field}
 use Rattle.algebra.specs.Divisibility.{Regular, Divides, Congruent}
-use Rattle.algebra.specs.CommonDivisor.{Each}
 use Rattle.algebra.specs.Polynomials.{Polynomials, leading, Monic}
 use Rattle.algebra.specs.Division.{Divided}
 use Rattle.algebra.proofs.Reify.{by-facts, _⋆_, terms}
@@ -24,7 +22,7 @@ use Rattle.algebra.proofs.CommonDivisor as G
 use Rattle.mumford.specs.Functions.{Represents}
 use Rattle.mumford.specs.Divisors.{Divisor, degree, Valid}
 use Rattle.mumford.specs.Composition.{Shared, numerator, Quotients, Composite}
-use Rattle.mumford.specs.Addition.{Composed, Remainder}
+use Rattle.mumford.specs.Addition.{Composed}
 use Rattle.mumford.proofs.Congruences as C
 use Rattle.mumford.proofs.Remainders.{exact-quotient, remainder-of}
 use Rattle.mumford.proofs.Degrees.{degree-mul}
@@ -33,7 +31,7 @@ module _ {K : Type 0} {o : Ops K} (F : Field o) {P : Type 0} {p : Ops P} (H : Po
     (hD : Valid H f D) (hE : Valid H f E) where
   infixl 75 _+_
   infixl 80 _·_
-  open Ops p using (add as _+_, mul as _·_, neg, unit)
+  open Ops p using (add as _+_, mul as _·_, unit)
   open Polynomials H using (size)
   open Divisor D using (u as u1, v as v1)
   open Divisor E using (u as u2, v as v2)

@@ -25,8 +25,8 @@ use Rattle.mumford.proofs.Norm as N
 module _ {K : Type 0} {o : Ops K} (F : Field o) {P : Type 0} {p : Ops P} (H : Polynomials o p) {f V : P} (C : Curve H f V) where
   infixl 75 _+_ _-_
   infixl 80 _·_
-  open Ops p using (add as _+_, mul as _·_, neg, nil, unit)
-  open Polynomials H using (coefficient, size)
+  open Ops p using (add as _+_, mul as _·_, neg, nil)
+  open Polynomials H using (size)
 
   abbrev _-_ : P → P → P
   _-_ = sub p

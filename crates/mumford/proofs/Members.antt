@@ -5,7 +5,6 @@ use Rattle.algebra.specs.Ring.{Ops, Laws}
 use Rattle.algebra.specs.Divisibility.{Congruent}
 use Rattle.algebra.proofs.Reify.{by-ring, _⋆_, by-facts, terms}
 use Rattle.mumford.specs.Functions.{Function, functions, constant, conjugate, Represents, Member}
-use Rattle.mumford.proofs.Functions.{both}
 use Rattle.mumford.proofs.Sums.{Closed, Ideal}
 
 module _ {P : Type 0} {o : Ops P} (L : Laws o) where

@@ -3,14 +3,14 @@
 use mathlib.Core.Path.{_≡_, refl, sym, _∙_, ap, ap₂, subst}
 use mathlib.Core.Logic.{_≢_}
 use mathlib.Core.List.{[], _∷_}
-use Prim.Native.Nat.{ℕ, suc, pred, _≤_, _<_, _+_ as _+ᴺ_}
+use Prim.Native.Nat.{ℕ, pred, _≤_, _<_, _+_ as _+ᴺ_}
 use native.Mathlib.Omega.{arith}
-use lib.IntN.{ℤ, pos, negsuc, _+ℤ_, _-ℤ_}
+use lib.IntN.{pos, negsuc, _+ℤ_, _-ℤ_}
 use lib.Signed.{_≤ℤ_}
 use Rattle.std.proofs.shelf.Signed.{ints, by-ltZ}
 use Rattle.algebra.specs.Ring.{Ops, Laws, sub}
 use Rattle.algebra.specs.Field.{Field}
-use Rattle.algebra.specs.Divisibility.{Divides, Congruent}
+use Rattle.algebra.specs.Divisibility.{Congruent}
 use Rattle.algebra.specs.Polynomials.{Polynomials, constant, leading, Monic}
 use Rattle.algebra.specs.Division.{Divided}
 use Rattle.algebra.proofs.Reify.{by-ring, by-facts, _⋆_, terms}

@@ -12,7 +12,7 @@ use Rattle.algebra.specs.Polynomials.{Polynomials}
 use Rattle.algebra.proofs.PolynomialRing as A
 use Rattle.algebra.proofs.Size as Z
 use Rattle.algebra.proofs.Monic as M
-use Rattle.mumford.specs.Functions.{Function, functions, constant, Represents}
+use Rattle.mumford.specs.Functions.{functions, constant, Represents}
 use Rattle.mumford.specs.Divisors.{Divisor, degree, Valid}
 use Rattle.mumford.specs.Composition.{Quotients}
 use Rattle.mumford.specs.Curve.{Curve}

@@ -4,7 +4,7 @@ use mathlib.Core.List.{[], _∷_}
 use Rattle.algebra.specs.Ring.{Ops, Laws, sub}
 use Rattle.algebra.specs.Field.{Field}
 use Rattle.algebra.specs.Divisibility.{Divides, Coprime}
-use Rattle.algebra.specs.CommonDivisor.{Each, Greatest}
+use Rattle.algebra.specs.CommonDivisor.{Greatest}
 use Rattle.algebra.specs.Polynomials.{Polynomials, derivative}
 use Rattle.algebra.proofs.Reify.{_⋆_, by-facts, terms}
 use Rattle.algebra.proofs.PolynomialRing as A

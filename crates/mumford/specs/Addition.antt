@@ -1,7 +1,6 @@
 -- The sum of two divisors: composition, and one step of reduction where the composite is not in range.
 use mathlib.Core.Path.{_≡_}
 use mathlib.Core.Logic.{_≢_}
-use mathlib.Core.List.{[], _∷_}
 use Prim.Native.Nat.{_≤_, _<_}
 use lib.IntN.{pos, _+ℤ_, _-ℤ_}
 use lib.Signed.{_≤ℤ_, _<ℤ_}

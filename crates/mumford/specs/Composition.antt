@@ -1,6 +1,6 @@
 -- Composition of two divisors with the Mumford representations (u1, v1) and (u2, v2), in any commutative ring.
 use mathlib.Core.Path.{_≡_}
-use mathlib.Core.List.{List, [], _∷_}
+use mathlib.Core.List.{[], _∷_}
 use Rattle.algebra.specs.Ring.{Ops, sub}
 use Rattle.algebra.specs.Divisibility.{Regular, Congruent}
 use Rattle.algebra.specs.CommonDivisor.{Greatest}

@@ -1,5 +1,4 @@
 -- Functions on the curve y² = f over a commutative ring P: pairs (a, b), read a + b·y. Assumes nothing of P.
-use mathlib.Core.Path.{_≡_}
 use Rattle.algebra.specs.Ring.{Ops, sub}
 use Rattle.algebra.specs.Divisibility.{Divides}
 
