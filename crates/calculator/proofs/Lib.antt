@@ -1,3 +1,5 @@
 pub mod Entry
 pub mod Steps
 pub mod Obeyed
+pub mod Runs
+pub mod Loops

@@ -67,11 +67,13 @@ module _ {F M : Type 0} where
       pub accounts : Sound law old → (books : List Account) → AllBuilt (arithmetic old) (old .model .curve) (held old) books
           → AllBuilt (arithmetic old) (old .model .curve) (held new) (booked (arithmetic old) (old .model .curve) books call)
 
-    -- What a list of calls leaves, and what was answered.
+    -- What a list of calls leaves, and what was answered: the same of calls one after another.
     pub record LeftAll (law : Law) (calls : List Call) (old new : Calculator F M) (answers : List Answer) : Type 0 where
       pub model : new .model ≡ old .model
-      pub registers : Sound law old → held new ≡ nexts (arithmetic old) (old .model .curve) (held old) calls
       pub answered : Sound law old → answers ≡ replies (arithmetic old) (old .model .curve) (held old) calls
+      pub registers : Sound law old → held new ≡ nexts (arithmetic old) (old .model .curve) (held old) calls
+      pub accounts : Sound law old → (books : List Account) → AllBuilt (arithmetic old) (old .model .curve) (held old) books
+          → AllBuilt (arithmetic old) (old .model .curve) (held new) (all-booked (arithmetic old) (old .model .curve) books calls)
 
     -- The account theorem: after any list of calls to a fresh calculator, refused ones included, each of the sixteen registers
     -- holds a valid divisor that settles the account drawn up for it.
