@@ -57,9 +57,9 @@ module _ {F M : Type 0} (field : Ghosts F) (law : Law) where
         let on : Model F → Result Divisor CallRefusal = λ m. given (field .meaning (m .field)) (m .curve) (held mid) this in
         let rest : drop i (map call before) ≡ this ∷ drop (i + 1) (map call before) = rw (← so-far .calls) (left-map call xs i d lt) in
         let answer-is : Sound field law old → answer x ≡ reply K C (held mid) this =
-            λ sound. said-so (sound-kept old mid (so-far .model) sound) ∙ ap (λ m. said this (on m)) (so-far .model) in
+        λ sound. said-so (sound-kept old mid (so-far .model) sound) ∙ ap (λ m. said this (on m)) (so-far .model) in
         let held-is : Sound field law old → held new ≡ next K C (held mid) this =
-            λ sound. left .registers (sound-kept old mid (so-far .model) sound) ∙ ap (λ m. posted (held mid) this (on m)) (so-far .model) in
+        λ sound. left .registers (sound-kept old mid (so-far .model) sound) ∙ ap (λ m. posted (held mid) this (on m)) (so-far .model) in
         record {
           calls = map-set-same call xs i x d same ∙ so-far .calls;
           model = left .model ∙ so-far .model;
@@ -78,7 +78,7 @@ module _ {F M : Type 0} (field : Ghosts F) (law : Law) where
         let long : length (map answer xs) ≤ i = rw length-map le in
         let short : length (map call before) ≤ i = rw (← so-far .calls, length-map) le in
         let registers : Sound field law old → held new ≡ nexts K C (held old) (map call before) =
-            λ sound. rw (drop-all i (map call before) short) at (so-far .registers sound) in
+        λ sound. rw (drop-all i (map call before) short) at (so-far .registers sound) in
         record {
           model = so-far .model;
           answered = λ sound. rw (take-all i (map answer xs) long, drop-all i (map call before) short, append-nil) at (so-far .answered sound);

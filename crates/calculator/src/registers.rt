@@ -37,7 +37,11 @@ impl Registers {
     }
 
     // Puts the divisor that a call gives into its target; or, if it is refused, changes nothing.
-    pub fn put(&mut self, target: u8, given: Result<Divisor, DivisorRefusal>) -> Result<(), CallRefusal>
+    pub fn put(
+        &mut self,
+        target: u8,
+        given: Result<Divisor, DivisorRefusal>,
+    ) -> Result<(), CallRefusal>
         requires { ⌜ target < 16 ⌝ }
         ensures answer { λ r. ⌜ r ≡ nothing (or-invalid given) ⌝ }
         ensures after { λ _. ⌜ now (self .exit) .divisors ≡ put (now (self .entry) .divisors) target (or-invalid given) ⌝ }

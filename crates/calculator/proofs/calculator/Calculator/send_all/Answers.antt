@@ -22,9 +22,9 @@ pub returns : need.returns
 returns g c =
     let end : length (c .loop-exchange .exchanges) ≤ c .loop-exchange .exchange-index = omega arith in
     let left =
-        all-done (g .F·Field) (g .M·Method .answers) (λ x. x .call) (λ x. x .answer) (c .args .exchanges .now)
-        (c .loop-exchange .exchange-index) (c .args .self .now) (c .loop-exchange .self) (c .loop-exchange .exchanges) end
-        (c .loop-exchange .inv) in
+    all-done (g .F·Field) (g .M·Method .answers) (λ x. x .call) (λ x. x .answer) (c .args .exchanges .now)
+    (c .loop-exchange .exchange-index) (c .args .self .now) (c .loop-exchange .self) (c .loop-exchange .exchanges) end
+    (c .loop-exchange .inv) in
     record {
       calls = c .loop-exchange .inv .calls;
       left = left;
