@@ -14,6 +14,7 @@ pub mod Lines
 pub mod Degrees
 pub mod Remainders
 pub mod Composed
+pub mod Choice
 pub mod Reduced
 pub mod Addition
 pub mod Settled
