@@ -53,8 +53,14 @@ module _ (K : Arithmetic) (L : Lawful K) where
     pub valid-to : (D : Divisor) → Valid K C D → M.Valid (presentation K L) (f C) (mumford-of D)
     valid-to = ?h
 
-    pub valid-from : (D : Divisor) → M.Valid (presentation K L) (f C) (mumford-of D) → Valid K C D
-    valid-from = ?h
+    pub neutral-valid : Valid K C neutral
+    neutral-valid = ?h
+
+    pub plus-valid : (D E : Divisor) → Valid K C D → Valid K C E → Valid K C (plus K C D E)
+    plus-valid = ?h
+
+    pub opposite-valid : (D : Divisor) → Valid K C D → Valid K C (opposite K D)
+    opposite-valid = ?h
 
     pub plus-sum : (D E : Divisor) → Valid K C D → Valid K C E
         → MA.Sum (presentation K L) (f C) (V C) (mumford-of D) (mumford-of E) (mumford-of (plus K C D E))

@@ -1,2 +1,6 @@
 pub mod Assumed
 pub mod Functions
+pub mod Growth
+pub mod Members
+pub mod Accounts
+pub mod Built

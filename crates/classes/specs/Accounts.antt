@@ -29,6 +29,11 @@ pub data Sums (K : Arithmetic) (S : Function → Type 0) : Function → Type 0 w
   none : Sums K S zero-function
   more : {x y : Function} → S x → Sums K S y → Sums K S (function-sum K x y)
 
+-- (n1 − 1) + … + (nk − 1)
+abbrev pub excess : List Divisor → ℤ
+excess [] = pos 0
+excess (D ∷ account) = pos (D .n) -ℤ pos 1 +ℤ excess account
+
 module _ (K : Arithmetic) (C : Curve) where
   -- x is g·a1·…·ak·c, where ai is a member of the i-th divisor and c is any function
   abbrev pub Product : Function → List Divisor → Function → Type 0
@@ -38,11 +43,6 @@ module _ (K : Arithmetic) (C : Curve) where
   -- x is h·m, where m is a member of D
   abbrev pub Multiple : Function → Divisor → Function → Type 0
   Multiple h D x = (m : Function) × Member K D m × (x ≡ function-product K C h m)
-
-  -- (n1 − 1) + … + (nk − 1)
-  abbrev pub excess : List Divisor → ℤ
-  excess [] = pos 0
-  excess (D ∷ account) = pos (D .n) -ℤ pos 1 +ℤ excess account
 
   -- Nonzero functions g and h such that the sums of products g·a1·…·ak·c are exactly the functions h·m, m a member of D, and
   -- (n1 − 1) + … + (nk − 1) + growth of h = n − 1 + growth of g.
