@@ -17,7 +17,7 @@ use Rattle.mumford.specs.Settling as S
 use Rattle.methods.specs.declared.curve.Curve.{Curve}
 use Rattle.methods.specs.declared.divisor.Divisor.{Divisor}
 use Rattle.classes.specs.Functions.{Function, function-sum}
-use Rattle.classes.specs.Accounts.{Sums, none, more, Product, Multiple, excess, Settles}
+use Rattle.classes.specs.Settling.{Sums, none, more, Product, Multiple, excess, Settles}
 use Rattle.classes.proofs.Functions.{lists, listed, lists-over, lists-nil, lists-add, lists-mul, lists-some, ring, ring-laws}
 use Rattle.classes.proofs.Growth.{growth-list}
 use Rattle.classes.proofs.Members.{member-listed, member-lists}

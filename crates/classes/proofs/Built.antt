@@ -19,8 +19,7 @@ use Rattle.methods.specs.declared.divisor.Divisor.{Divisor}
 use Rattle.methods.specs.Curves.{Accepted}
 use Rattle.methods.specs.Divisors.{Valid, neutral, opposite}
 use Rattle.methods.specs.Sums.{plus, twice}
-use Rattle.classes.specs.Accounts.{Settles}
-use Rattle.classes.specs.Built.{Built, nothing, alone, sum, double, negative}
+use Rattle.classes.specs.Settling.{Settles, Built, built-neutral, built-alone, built-sum, built-double, built-negative}
 use Rattle.classes.proofs.Accounts.{account-of, settles-lists}
 use Rattle.classes.proofs.Assumed.{f, V, mumford-of, curve-is, valid-to, neutral-valid, plus-valid, opposite-valid, plus-sum, neutral-is, opposite-is}
 
@@ -80,17 +79,17 @@ module _ (K : Arithmetic) (L : Lawful K) (C : Curve) (accepted : Accepted K C) w
 
   sound : {D : Divisor} {A : List Divisor} → Built K C D A → Sound D A
   unfolding twice
-  sound nothing =
+  sound built-neutral =
       record {
         valid = neutral-valid K L C accepted;
         valid-account = tt;
         settled = rw (neutral-is K L C accepted) (S.settled-neutral F H curve);
       }
-  sound (alone {D = D} h) =
+  sound (built-alone {D = D} h) =
       record { valid = h; valid-account = (h, tt); settled = S.settled-alone F H curve (valid-to K L C accepted D h) }
-  sound (sum a b) = sound-sum (sound a) (sound b)
-  sound (double a) = sound-sum (sound a) (sound a)
-  sound (negative a) = sound-negative (sound a)
+  sound (built-sum a b) = sound-sum (sound a) (sound b)
+  sound (built-double a) = sound-sum (sound a) (sound a)
+  sound (built-negative a) = sound-negative (sound a)
 
   pub built-valid : {D : Divisor} {A : List Divisor} → Built K C D A → Valid K C D
   built-valid b = sound b .valid

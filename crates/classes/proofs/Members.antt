@@ -16,7 +16,7 @@ use Rattle.methods.specs.declared.divisor.Divisor.{Divisor}
 use Rattle.methods.specs.Curves.{Accepted}
 use Rattle.methods.specs.Divisors.{Valid}
 use Rattle.classes.specs.Functions.{Function, Over, function-sum, function-product}
-use Rattle.classes.specs.Accounts.{Member}
+use Rattle.classes.specs.Settling.{Member}
 use Rattle.classes.proofs.Functions.{lists, listed, lists-over, lists-add, lists-mul, ring}
 use Rattle.classes.proofs.Assumed.{f, mumford-of, valid-to}
 

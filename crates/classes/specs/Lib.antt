@@ -1,5 +1,4 @@
 pub mod Functions
 pub mod Growth
-pub mod Accounts
-pub mod Built
+pub mod Settling
 pub mod Theorems

@@ -12,8 +12,7 @@ use Rattle.methods.specs.Divisors.{Valid, neutral}
 use Rattle.methods.specs.Sums.{deg, plus, twice}
 use Rattle.classes.specs.Functions.{Function, Over, zero-function, function-sum, function-product, conjugate, norm}
 use Rattle.classes.specs.Growth.{growth}
-use Rattle.classes.specs.Accounts.{Member, Settles}
-use Rattle.classes.specs.Built.{Built}
+use Rattle.classes.specs.Settling.{Member, Settles, Built}
 
 abbrev pub Always : (Arithmetic → Curve → Type 0) → Type 0
 Always Q = (K : Arithmetic) (C : Curve) → Lawful K → Accepted K C → Q K C

@@ -6,14 +6,15 @@
 -- of growths that they are equal at the first point at infinity; and at the second they are since their degrees are 0.
 use mathlib.Core.Path.{_≡_}
 use mathlib.Core.Logic.{_≢_}
-use mathlib.Core.List.{List, [], _∷_}
+use mathlib.Core.List.{List, [], _∷_, _++_, map}
 use lib.IntN.{ℤ, pos, _+ℤ_, _-ℤ_}
 use Rattle.fields.specs.Arithmetic.{Arithmetic}
 use Rattle.polynomials.specs.Polynomial.{Polynomial, sum, product}
 use Rattle.polynomials.specs.Proper.{Proper}
 use Rattle.methods.specs.declared.curve.Curve.{Curve}
 use Rattle.methods.specs.declared.divisor.Divisor.{Divisor}
-use Rattle.methods.specs.Divisors.{u-of, v-of}
+use Rattle.methods.specs.Divisors.{u-of, v-of, Valid, neutral, opposite}
+use Rattle.methods.specs.Sums.{plus, twice}
 use Rattle.classes.specs.Functions.{Function, Over, zero-function, function-sum, function-product}
 use Rattle.classes.specs.Growth.{growth}
 
@@ -56,3 +57,13 @@ module _ (K : Arithmetic) (C : Curve) where
     pub within : (x : Function) → Sums K (Product g account) x → Multiple h D x
     pub reached : (x : Function) → Multiple h D x → Sums K (Product g account) x
     pub growths : excess account +ℤ growth K C h ≡ pos (D .n) -ℤ pos 1 +ℤ growth K C g
+
+-- D is built with an account: the neutral divisor with the empty account, a valid divisor with itself alone, a sum with the
+-- accounts of its operands joined, a double with the account joined to itself, a negative with each divisor of the account
+-- replaced by its negative.
+pub data Built (K : Arithmetic) (C : Curve) : Divisor → List Divisor → Type 0 where
+  built-neutral : Built K C neutral []
+  built-alone : {D : Divisor} → Valid K C D → Built K C D (D ∷ [])
+  built-sum : {D E : Divisor} {A B : List Divisor} → Built K C D A → Built K C E B → Built K C (plus K C D E) (A ++ B)
+  built-double : {D : Divisor} {A : List Divisor} → Built K C D A → Built K C (twice K C D) (A ++ A)
+  built-negative : {D : Divisor} {A : List Divisor} → Built K C D A → Built K C (opposite K D) (map (opposite K) A)
