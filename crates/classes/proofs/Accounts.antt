@@ -44,7 +44,7 @@ module _ (K : Arithmetic) (L : Lawful K) (C : Curve) where
     lists a,
     member-lists K L D a m,
     subst (λ (x : Function). Product K C x A (lists z)) (lists-mul K L C g a)
-    (product-lists (R .mul g a) A z (q, r, e ∙ ap (R .mul g) e′ ∙ sym (ring-laws K L C .mul-assoc g a q))),
+        (product-lists (R .mul g a) A z (q, r, e ∙ ap (R .mul g) e′ ∙ sym (ring-laws K L C .mul-assoc g a q))),
   )
 
   product-listed : (g : F) (A : List Divisor) (x : Function) → Product K C (lists g) A x → (z : F) × Terms g A z × (x ≡ lists z)

@@ -20,7 +20,7 @@ use Rattle.fields.specs.Lawful.{Lawful}
 use Rattle.fields.proofs.Codes.{codes, field}
 use Rattle.polynomials.specs.Polynomial.{Polynomial, is-zero, sum, product}
 use Rattle.polynomials.specs.Proper.{Listed}
-use Rattle.polynomials.proofs.Listed.{polynomials}
+use Rattle.polynomials.proofs.Listed.{listed-path, polynomials, nil-list}
 use Rattle.polynomials.proofs.Presentation.{presentation}
 use Rattle.mumford.specs.Functions as M
 use Rattle.mumford.specs.Growth as MG
@@ -40,9 +40,9 @@ use Rattle.classes.proofs.Assumed.{f, V, curve-is}
 by-length : (b : Polynomial) (s a n : ℕ)
     → growth-by (length b) s a n
     ≡ elim (is-zero b) as (λ _. ℤ) [
-        | true ↦ pos a
-        | false ↦ elim (leb (length b) s) [ true ↦ pos (s - 1) | false ↦ pos n -ℤ pos (length b - 1) -ℤ pos 3 ]
-      ]
+      | true ↦ pos a
+      | false ↦ elim (leb (length b) s) [ true ↦ pos (s - 1) | false ↦ pos n -ℤ pos (length b - 1) -ℤ pos 3 ]
+    ]
 by-length [] s a n = refl
 by-length (x ∷ b) s a n = at (decLe (suc (length b)) s)
   where
@@ -77,6 +77,11 @@ module _ (K : Arithmetic) (L : Lawful K) (C : Curve) where
     curve = curve-is K L C accepted
 
     module _ {g : Function} (hg : Over K g) (g-some : g ≢ zero-function) where
+      pub norm-some : norm K C g ≢ []
+      norm-some e =
+          N.norm-some F H curve (listed hg) (listed-some K L C hg g-some)
+          (listed-path (norm-list K L C (listed hg) ∙ e ∙ sym (nil-list K L)))
+
       pub conjugate-growth : growth K C g +ℤ growth K C (conjugate K g) ≡ pos (deg (norm K C g))
       conjugate-growth =
           let x = listed hg in
