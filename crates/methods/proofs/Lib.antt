@@ -1,3 +1,4 @@
 pub mod Values
 pub mod SquareRoots
 pub mod Curves
+pub mod Shapes

@@ -7,20 +7,30 @@ use lib.ListN.{length, getD, List·getD-eq-default}
 use Rattle.algebra.specs.Polynomials.{Monic}
 use Rattle.fields.specs.Arithmetic.{Arithmetic}
 use Rattle.fields.specs.Lawful.{Lawful}
-use Rattle.fields.proofs.Codes.{Code, code-path, codes, zero-code, one-code}
+use Rattle.fields.proofs.Codes.{Code, code-path, codes, one-code}
 use Rattle.polynomials.specs.Polynomial.{Polynomial, leading}
 use Rattle.polynomials.specs.Proper.{Proper, Listed}
 use Rattle.polynomials.specs.Ten.{code, value}
 use Rattle.polynomials.proofs.Coefficients.{trim-equal, trim-within, counted}
-use Rattle.polynomials.proofs.Tens.{code-inside, value-at, value-trimmed, value-proper}
+use Rattle.polynomials.proofs.Tens.{code-zero, code-inside, value-at, value-trimmed, value-proper}
 use Rattle.polynomials.proofs.Presentation.{presentation}
 use Rattle.polynomials.proofs.Operations.{leading-is}
 
 module _ (K : Arithmetic) where
   -- no number from n on that is not 0: a degree below n
-  pub value-within : (c : List ℕ) (n : ℕ) → ((k : ℕ) → n ≤ k → code K (getD c k 0) ≡ 0) → length (value K c) ≤ n
+  pub value-within : (c : List ℕ) (n : ℕ) → ((k : ℕ) → n ≤ k → getD c k 0 ≡ 0) → length (value K c) ≤ n
   value-within c n above =
-      omega (arith, ap length (value-trimmed K c), trim-within (value K c) n (λ k l. value-at K c k ∙ above k l))
+      omega (
+        arith,
+        ap length (value-trimmed K c),
+        trim-within (value K c) n (λ k l. value-at K c k ∙ ap (code K) (above k l) ∙ code-zero K),
+      )
+
+  pub value-same : (c d : List ℕ) → ((k : ℕ) → getD c k 0 ≡ getD d k 0) → value K c ≡ value K d
+  value-same c d same =
+      sym (value-trimmed K c)
+      ∙ trim-equal (value K c) (value K d) (λ k. value-at K c k ∙ ap (code K) (same k) ∙ sym (value-at K d k))
+      ∙ value-trimmed K d
 
   -- a polynomial stands for itself
   pub value-is : {p : Polynomial} → Proper K p → value K p ≡ p
@@ -41,7 +51,7 @@ module _ (K : Arithmetic) where
       pub monic-value-length : length (value K c) ≡ suc n
       monic-value-length =
           sym (counted (value K c) (suc n)
-          (λ k l. value-at K c k ∙ ap (code K) (List·getD-eq-default c 0 (omega arith)) ∙ code-inside K 0 (zero-code K L))
+          (λ k l. value-at K c k ∙ ap (code K) (List·getD-eq-default c 0 (omega arith)) ∙ code-zero K)
           (λ _ z. omega (arith, top, ap (λ m. getD (value K c) m 0) same))
           ∙ ap length (value-trimmed K c))
         where
