@@ -2,3 +2,4 @@ pub mod Values
 pub mod SquareRoots
 pub mod Curves
 pub mod Shapes
+pub mod Representations
