@@ -1,0 +1,5 @@
+pub mod Values
+pub mod SquareRoots
+pub mod Curves
+pub mod Shapes
+pub mod Representations
