@@ -19,3 +19,4 @@ pub mod Reduced
 pub mod Addition
 pub mod Settled
 pub mod Settling
+pub mod Root
