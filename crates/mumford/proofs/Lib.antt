@@ -20,3 +20,4 @@ pub mod Addition
 pub mod Settled
 pub mod Settling
 pub mod Root
+pub mod Existence
