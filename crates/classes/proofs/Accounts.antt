@@ -16,12 +16,13 @@ use Rattle.mumford.specs.Accounts as theory
 use Rattle.mumford.specs.Settling as S
 use Rattle.methods.specs.declared.curve.Curve.{Curve}
 use Rattle.methods.specs.declared.divisor.Divisor.{Divisor}
+use Rattle.methods.proofs.Curves.{f-of, V-of}
+use Rattle.methods.proofs.Representations.{mumford-of}
 use Rattle.classes.specs.Functions.{Function, function-sum}
 use Rattle.classes.specs.Settling.{Sums, none, more, Product, Multiple, excess, Settles}
 use Rattle.classes.proofs.Functions.{lists, listed, lists-over, lists-nil, lists-add, lists-mul, lists-some, ring, ring-laws}
 use Rattle.classes.proofs.Growth.{growth-list}
 use Rattle.classes.proofs.Members.{member-listed, member-lists}
-use Rattle.classes.proofs.Assumed.{f, V, mumford-of}
 
 module _ (K : Arithmetic) (L : Lawful K) (C : Curve) where
   abbrev F : Type 0
@@ -83,7 +84,7 @@ module _ (K : Arithmetic) (L : Lawful K) (C : Curve) where
   excess-is (D ∷ A) = ap (λ z. pos (D .n) -ℤ pos 1 +ℤ z) (excess-is A)
 
   pub settles-lists : {D : Divisor} {A : List Divisor}
-      → S.Settles (polynomials K L) (presentation K L .size) (f K L C) (V K L C) (mumford-of K L D) (account-of A)
+      → S.Settles (polynomials K L) (presentation K L .size) (f-of K L C) (V-of K L C) (mumford-of K L D) (account-of A)
       → Settles K C D A
   settles-lists {D} {A} s =
       record {

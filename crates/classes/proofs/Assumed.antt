@@ -18,41 +18,12 @@ use Rattle.methods.specs.declared.curve.Curve.{Curve}
 use Rattle.methods.specs.declared.divisor.Divisor.{Divisor}
 use Rattle.methods.specs.Curves.{sextic, root, Accepted}
 use Rattle.methods.specs.Divisors.{u-of, v-of, Valid, neutral, opposite}
+use Rattle.methods.proofs.Curves.{f-of, V-of}
+use Rattle.methods.proofs.Representations.{mumford-of}
 use Rattle.methods.specs.Sums.{plus}
 
 module _ (K : Arithmetic) (L : Lawful K) where
-  pub sextic-proper : (C : Curve) → Proper K (sextic K C)
-  unfolding sextic
-  sextic-proper C = value-proper K L _
-
-  pub root-proper : (C : Curve) → Proper K (root K C)
-  unfolding root
-  root-proper C = value-proper K L _
-
-  pub u-proper : (D : Divisor) → Proper K (u-of K D)
-  unfolding u-of
-  u-proper C = value-proper K L _
-
-  pub v-proper : (D : Divisor) → Proper K (v-of K D)
-  unfolding v-of
-  v-proper C = value-proper K L _
-
-  abbrev pub f : Curve → Listed K
-  f C = (sextic K C, sextic-proper C)
-
-  abbrev pub V : Curve → Listed K
-  V C = (root K C, root-proper C)
-
-  abbrev pub mumford-of : Divisor → M.Divisor (Listed K)
-  mumford-of D = record { u = (u-of K D, u-proper D); v = (v-of K D, v-proper D); n = pos (D .n) }
-
   module _ (C : Curve) (accepted : Accepted K C) where
-    pub curve-is : MC.Curve (presentation K L) (f C) (V C)
-    curve-is = ?h
-
-    pub valid-to : (D : Divisor) → Valid K C D → M.Valid (presentation K L) (f C) (mumford-of D)
-    valid-to = ?h
-
     pub neutral-valid : Valid K C neutral
     neutral-valid = ?h
 
@@ -63,11 +34,11 @@ module _ (K : Arithmetic) (L : Lawful K) where
     opposite-valid = ?h
 
     pub plus-sum : (D E : Divisor) → Valid K C D → Valid K C E
-        → MA.Sum (presentation K L) (f C) (V C) (mumford-of D) (mumford-of E) (mumford-of (plus K C D E))
+        → MA.Sum (presentation K L) (f-of K L C) (V-of K L C) (mumford-of K L D) (mumford-of K L E) (mumford-of K L (plus K C D E))
     plus-sum = ?h
 
-    pub neutral-is : mumford-of neutral ≡ M.neutral (polynomials K L)
+    pub neutral-is : mumford-of K L neutral ≡ M.neutral (polynomials K L)
     neutral-is = ?h
 
-    pub opposite-is : (D : Divisor) → Valid K C D → mumford-of (opposite K D) ≡ M.negative (polynomials K L) (λ a. length (a .0)) (mumford-of D)
+    pub opposite-is : (D : Divisor) → Valid K C D → mumford-of K L (opposite K D) ≡ M.negative (polynomials K L) (λ a. length (a .0)) (mumford-of K L D)
     opposite-is = ?h

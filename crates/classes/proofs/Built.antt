@@ -19,9 +19,11 @@ use Rattle.methods.specs.declared.divisor.Divisor.{Divisor}
 use Rattle.methods.specs.Curves.{Accepted}
 use Rattle.methods.specs.Divisors.{Valid, neutral, opposite}
 use Rattle.methods.specs.Sums.{plus, twice}
+use Rattle.methods.proofs.Curves.{f-of, V-of, curve}
+use Rattle.methods.proofs.Representations.{mumford-of, valid-mumford}
 use Rattle.classes.specs.Settling.{Settles, Built, built-neutral, built-alone, built-sum, built-double, built-negative}
 use Rattle.classes.proofs.Accounts.{account-of, settles-lists}
-use Rattle.classes.proofs.Assumed.{f, V, mumford-of, curve-is, valid-to, neutral-valid, plus-valid, opposite-valid, plus-sum, neutral-is, opposite-is}
+use Rattle.classes.proofs.Assumed.{neutral-valid, plus-valid, opposite-valid, plus-sum, neutral-is, opposite-is}
 
 -- what each of two rows has, their join has
 each-++ : {P : Type 0} (Q : P → Type 0) (A B : List P) → Each Q A → Each Q B → Each Q (A ++ B)
@@ -35,11 +37,11 @@ module _ (K : Arithmetic) (L : Lawful K) (C : Curve) (accepted : Accepted K C) w
   abbrev H : Polynomials (codes K L) (polynomials K L)
   H = presentation K L
 
-  abbrev curve : Curved H (f K L C) (V K L C)
-  curve = curve-is K L C accepted
+  abbrev the-curve : Curved H (f-of K L C) (V-of K L C)
+  the-curve = curve K L C accepted
 
   abbrev Settled : M.Divisor (Listed K) → List (M.Divisor (Listed K)) → Type 0
-  Settled = S.Settled F H curve
+  Settled = S.Settled F H the-curve
 
   -- What is carried from divisor to divisor: that D and all divisors of its account are valid, and more than settling.
   record Sound (D : Divisor) (A : List Divisor) : Type 0 where
@@ -63,7 +65,7 @@ module _ (K : Arithmetic) (L : Lawful K) (C : Curve) (accepted : Accepted K C) w
         valid-account = each-++ (Valid K C) A B (a .valid-account) (b .valid-account);
         settled =
             rw (map-append (mumford-of K L) A B)
-            (settled-sum F H curve (valid-to K L C accepted D (a .valid)) (valid-to K L C accepted E (b .valid))
+            (settled-sum F H the-curve (valid-mumford K L C D (a .valid)) (valid-mumford K L C E (b .valid))
             (plus-sum K L C accepted D E (a .valid) (b .valid)) (a .settled) (b .settled));
       }
 
@@ -74,7 +76,7 @@ module _ (K : Arithmetic) (L : Lawful K) (C : Curve) (accepted : Accepted K C) w
         valid-account = opposites-valid A (a .valid-account);
         settled =
             rw (opposite-is K L C accepted D (a .valid), opposites-are A (a .valid-account))
-            (S.settled-negative F H curve (a .settled));
+            (S.settled-negative F H the-curve (a .settled));
       }
 
   sound : {D : Divisor} {A : List Divisor} → Built K C D A → Sound D A
@@ -83,10 +85,10 @@ module _ (K : Arithmetic) (L : Lawful K) (C : Curve) (accepted : Accepted K C) w
       record {
         valid = neutral-valid K L C accepted;
         valid-account = tt;
-        settled = rw (neutral-is K L C accepted) (S.settled-neutral F H curve);
+        settled = rw (neutral-is K L C accepted) (S.settled-neutral F H the-curve);
       }
   sound (built-alone {D = D} h) =
-      record { valid = h; valid-account = (h, tt); settled = S.settled-alone F H curve (valid-to K L C accepted D h) }
+      record { valid = h; valid-account = (h, tt); settled = S.settled-alone F H the-curve (valid-mumford K L C D h) }
   sound (built-sum a b) = sound-sum (sound a) (sound b)
   sound (built-double a) = sound-sum (sound a) (sound a)
   sound (built-negative a) = sound-negative (sound a)

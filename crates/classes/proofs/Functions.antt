@@ -13,8 +13,8 @@ use Rattle.polynomials.proofs.Operations.{difference-is}
 use Rattle.mumford.specs.Functions as M
 use Rattle.mumford.proofs.Functions as U
 use Rattle.methods.specs.declared.curve.Curve.{Curve}
+use Rattle.methods.proofs.Curves.{f-of}
 use Rattle.classes.specs.Functions.{Function, Over, zero-function, function-sum, function-product, conjugate, norm}
-use Rattle.classes.proofs.Assumed.{f}
 
 module _ {K : Arithmetic} where
   -- a pair of polynomials as its pair of lists, and back
@@ -33,10 +33,10 @@ module _ {K : Arithmetic} where
 module _ (K : Arithmetic) (L : Lawful K) (C : Curve) where
   -- the ring of functions on the curve
   abbrev pub ring : Ops (M.Function (Listed K))
-  ring = M.functions (polynomials K L) (f K L C)
+  ring = M.functions (polynomials K L) (f-of K L C)
 
   pub ring-laws : Laws ring
-  ring-laws = U.function-laws (list-laws K L) (f K L C)
+  ring-laws = U.function-laws (list-laws K L) (f-of K L C)
 
   pub lists-nil : lists (ring .nil) ≡ zero-function
   unfolding polynomials
@@ -54,9 +54,9 @@ module _ (K : Arithmetic) (L : Lawful K) (C : Curve) where
   unfolding polynomials conjugate
   lists-conjugate g = refl
 
-  pub norm-list : (g : M.Function (Listed K)) → M.norm (polynomials K L) (f K L C) g .0 ≡ norm K C (lists g)
+  pub norm-list : (g : M.Function (Listed K)) → M.norm (polynomials K L) (f-of K L C) g .0 ≡ norm K C (lists g)
   unfolding polynomials norm
-  norm-list g = sym (list-path (difference-is K L (P .mul (g .0) (g .0)) (P .mul (P .mul (g .1) (g .1)) (f K L C))))
+  norm-list g = sym (list-path (difference-is K L (P .mul (g .0) (g .0)) (P .mul (P .mul (g .1) (g .1)) (f-of K L C))))
     where
       P : Ops (Listed K)
       P = polynomials K L

@@ -31,10 +31,10 @@ use Rattle.mumford.proofs.Growth as G
 use Rattle.methods.specs.declared.curve.Curve.{Curve}
 use Rattle.methods.specs.Curves.{root, Accepted}
 use Rattle.methods.specs.Sums.{deg}
+use Rattle.methods.proofs.Curves.{f-of, V-of, curve}
 use Rattle.classes.specs.Functions.{Function, Over, zero-function, function-product, conjugate, norm}
 use Rattle.classes.specs.Growth.{growth}
 use Rattle.classes.proofs.Functions.{lists, listed, ring, lists-mul, lists-conjugate, norm-list, lists-some, listed-some}
-use Rattle.classes.proofs.Assumed.{f, V, curve-is}
 
 -- from the length of b, that of a + b·V, and the degrees of a and of the norm
 by-length : (b : Polynomial) (s a n : ℕ)
@@ -55,7 +55,7 @@ by-length (x ∷ b) s a n = at (decLe (suc (length b)) s)
 module _ (K : Arithmetic) (L : Lawful K) (C : Curve) where
   -- the growth of a pair of polynomials
   abbrev pub γ : M.Function (Listed K) → ℤ
-  γ = MG.growth (polynomials K L) (presentation K L .size) (f K L C) (V K L C)
+  γ = MG.growth (polynomials K L) (presentation K L .size) (f-of K L C) (V-of K L C)
 
   pub growth-list : (g : M.Function (Listed K)) → γ g ≡ growth K C (lists g)
   unfolding polynomials growth MG.growth
@@ -73,20 +73,20 @@ module _ (K : Arithmetic) (L : Lawful K) (C : Curve) where
     abbrev H : Polynomials (codes K L) (polynomials K L)
     H = presentation K L
 
-    abbrev curve : Curved H (f K L C) (V K L C)
-    curve = curve-is K L C accepted
+    abbrev the-curve : Curved H (f-of K L C) (V-of K L C)
+    the-curve = curve K L C accepted
 
     module _ {g : Function} (hg : Over K g) (g-some : g ≢ zero-function) where
       pub norm-some : norm K C g ≢ []
       norm-some e =
-          N.norm-some F H curve (listed hg) (listed-some K L C hg g-some)
+          N.norm-some F H the-curve (listed hg) (listed-some K L C hg g-some)
           (listed-path (norm-list K L C (listed hg) ∙ e ∙ sym (nil-list K L)))
 
       pub conjugate-growth : growth K C g +ℤ growth K C (conjugate K g) ≡ pos (deg (norm K C g))
       conjugate-growth =
           let x = listed hg in
           rw (← lists-conjugate K L C x, ← growth-list x, ← growth-list (M.conjugate (polynomials K L) x), ← norm-list K L C x, sub-one)
-          (G.growth-conjugate F H curve x (listed-some K L C hg g-some))
+          (G.growth-conjugate F H the-curve x (listed-some K L C hg g-some))
 
       module _ {h : Function} (hh : Over K h) (h-some : h ≢ zero-function) where
         pub product-some : function-product K C g h ≢ zero-function
@@ -94,11 +94,11 @@ module _ (K : Arithmetic) (L : Lawful K) (C : Curve) where
             let x = listed hg in
             let y = listed hh in
             rw (← lists-mul K L C x y) (lists-some K L C (ring K L C .mul x y)
-            (N.product-some F H curve x y (listed-some K L C hg g-some) (listed-some K L C hh h-some)))
+            (N.product-some F H the-curve x y (listed-some K L C hg g-some) (listed-some K L C hh h-some)))
 
         pub product-growth : growth K C (function-product K C g h) ≡ growth K C g +ℤ growth K C h
         product-growth =
             let x = listed hg in
             let y = listed hh in
             rw (← lists-mul K L C x y, ← growth-list x, ← growth-list y, ← growth-list (ring K L C .mul x y))
-            (G.growth-mul F H curve x y (listed-some K L C hg g-some) (listed-some K L C hh h-some))
+            (G.growth-mul F H the-curve x y (listed-some K L C hg g-some) (listed-some K L C hh h-some))

@@ -13,12 +13,12 @@ use Rattle.mumford.proofs.Sums.{Ideal}
 use Rattle.mumford.proofs.Members.{members-closed, members-ideal}
 use Rattle.methods.specs.declared.curve.Curve.{Curve}
 use Rattle.methods.specs.declared.divisor.Divisor.{Divisor}
-use Rattle.methods.specs.Curves.{Accepted}
 use Rattle.methods.specs.Divisors.{Valid}
+use Rattle.methods.proofs.Curves.{f-of}
+use Rattle.methods.proofs.Representations.{mumford-of, valid-mumford}
 use Rattle.classes.specs.Functions.{Function, Over, function-sum, function-product}
 use Rattle.classes.specs.Settling.{Member}
 use Rattle.classes.proofs.Functions.{lists, listed, lists-over, lists-add, lists-mul, ring}
-use Rattle.classes.proofs.Assumed.{f, mumford-of, valid-to}
 
 module _ (K : Arithmetic) (L : Lawful K) where
   abbrev P : Ops (Listed K)
@@ -39,11 +39,11 @@ module _ (K : Arithmetic) (L : Lawful K) where
         let x = listed (hm .over) in
         let y = listed (hn .over) in
         rw (← lists-add K L C x y) (member-lists D (ring K L C .add x y)
-        (members-closed (list-laws K L) (f K L C) _ _ .add-in x y (member-listed D hm) (member-listed D hn)))
+        (members-closed (list-laws K L) (f-of K L C) _ _ .add-in x y (member-listed D hm) (member-listed D hn)))
 
-    pub member-product : Accepted K C → Valid K C D → {m c : Function} → Member K D m → Over K c → Member K D (function-product K C m c)
-    member-product accepted valid hm hc =
+    pub member-product : Valid K C D → {m c : Function} → Member K D m → Over K c → Member K D (function-product K C m c)
+    member-product valid hm hc =
         let x = listed (hm .over) in
         let y = listed hc in
         rw (← lists-mul K L C x y) (member-lists D (ring K L C .mul x y)
-        (members-ideal (list-laws K L) (valid-to K L C accepted D valid .represents) .times x y (member-listed D hm)))
+        (members-ideal (list-laws K L) (valid-mumford K L C D valid .represents) .times x y (member-listed D hm)))
