@@ -24,6 +24,10 @@ use Rattle.classes.proofs.Functions.{lists, listed, lists-over, lists-nil, lis
 use Rattle.classes.proofs.Growth.{growth-list}
 use Rattle.classes.proofs.Members.{member-listed, member-lists}
 
+-- an account, by the polynomials of its divisors
+abbrev pub account-of : (K : Arithmetic) → Lawful K → List Divisor → List (divisors.Divisor (Listed K))
+account-of K L = map (mumford-of K L)
+
 module _ (K : Arithmetic) (L : Lawful K) (C : Curve) where
   abbrev F : Type 0
   F = M.Function (Listed K)
@@ -31,13 +35,9 @@ module _ (K : Arithmetic) (L : Lawful K) (C : Curve) where
   abbrev R : Ops F
   R = ring K L C
 
-  -- an account, by the polynomials of its divisors
-  abbrev pub account-of : List Divisor → List (divisors.Divisor (Listed K))
-  account-of = map (mumford-of K L)
-
   -- the products of an account with the factor g
   abbrev Terms : F → List Divisor → F → Type 0
-  Terms g A = theory.Multiple R g (theory.Product R (Members (polynomials K L)) (account-of A))
+  Terms g A = theory.Multiple R g (theory.Product R (Members (polynomials K L)) (account-of K L A))
 
   product-lists : (g : F) (A : List Divisor) (z : F) → Terms g A z → Product K C (lists g) A (lists z)
   product-lists g [] z (p, _, e) = (lists p, lists-over p, ap lists e ∙ lists-mul K L C g p)
@@ -79,12 +79,12 @@ module _ (K : Arithmetic) (L : Lawful K) (C : Curve) where
       let (b, sb, eb) = sums-listed h y r in
       (R .add a b, theory.more sa sb, ap₂ (function-sum K) ea eb ∙ sym (lists-add K L C a b))
 
-  excess-is : (A : List Divisor) → S.excess (account-of A) ≡ excess A
+  excess-is : (A : List Divisor) → S.excess (account-of K L A) ≡ excess A
   excess-is [] = refl
   excess-is (D ∷ A) = ap (λ z. pos (D .n) -ℤ pos 1 +ℤ z) (excess-is A)
 
   pub settles-lists : {D : Divisor} {A : List Divisor}
-      → S.Settles (polynomials K L) (presentation K L .size) (f-of K L C) (V-of K L C) (mumford-of K L D) (account-of A)
+      → S.Settles (polynomials K L) (presentation K L .size) (f-of K L C) (V-of K L C) (mumford-of K L D) (account-of K L A)
       → Settles K C D A
   settles-lists {D} {A} s =
       record {

@@ -1,5 +1,5 @@
 -- Whatever is built is valid and settles its account.
-use mathlib.Core.Path.{_≡_, refl, sym, _∙_, ap, ap₂, subst}
+use mathlib.Core.Path.{_≡_, refl, ap₂}
 use mathlib.Core.List.{List, [], _∷_, _++_, map, map-append}
 use Rattle.algebra.specs.Field.{Field}
 use Rattle.algebra.specs.Polynomials.{Polynomials}
@@ -17,13 +17,14 @@ use Rattle.mumford.proofs.Settling.{settled-sum}
 use Rattle.methods.specs.declared.curve.Curve.{Curve}
 use Rattle.methods.specs.declared.divisor.Divisor.{Divisor}
 use Rattle.methods.specs.Curves.{Accepted}
-use Rattle.methods.specs.Divisors.{Valid, neutral, opposite}
+use Rattle.methods.specs.Divisors.{Valid, opposite}
 use Rattle.methods.specs.Sums.{plus, twice}
 use Rattle.methods.proofs.Curves.{f-of, V-of, curve}
 use Rattle.methods.proofs.Representations.{mumford-of, valid-mumford}
 use Rattle.classes.specs.Settling.{Settles, Built, built-neutral, built-alone, built-sum, built-double, built-negative}
 use Rattle.classes.proofs.Accounts.{account-of, settles-lists}
-use Rattle.classes.proofs.Assumed.{neutral-valid, plus-valid, opposite-valid, plus-sum, neutral-is, opposite-is}
+use Rattle.classes.proofs.Opposites.{neutral-valid, neutral-is, opposite-valid, opposite-is}
+use Rattle.classes.proofs.Assumed.{plus-valid, plus-sum}
 
 -- what each of two rows has, their join has
 each-++ : {P : Type 0} (Q : P → Type 0) (A B : List P) → Each Q A → Each Q B → Each Q (A ++ B)
@@ -47,16 +48,16 @@ module _ (K : Arithmetic) (L : Lawful K) (C : Curve) (accepted : Accepted K C) w
   record Sound (D : Divisor) (A : List Divisor) : Type 0 where
     valid : Valid K C D
     valid-account : Each (Valid K C) A
-    settled : Settled (mumford-of K L D) (account-of K L C A)
+    settled : Settled (mumford-of K L D) (account-of K L A)
 
   opposites-valid : (A : List Divisor) → Each (Valid K C) A → Each (Valid K C) (map (opposite K) A)
   opposites-valid [] h = tt
-  opposites-valid (D ∷ A) (h, hs) = (opposite-valid K L C accepted D h, opposites-valid A hs)
+  opposites-valid (D ∷ A) (h, hs) = (opposite-valid K L C D h, opposites-valid A hs)
 
   opposites-are : (A : List Divisor) → Each (Valid K C) A
-      → account-of K L C (map (opposite K) A) ≡ map (M.negative (polynomials K L) (presentation K L .size)) (account-of K L C A)
+      → account-of K L (map (opposite K) A) ≡ map (M.negative (polynomials K L) (presentation K L .size)) (account-of K L A)
   opposites-are [] h = refl
-  opposites-are (D ∷ A) (h, hs) = ap₂ _∷_ (opposite-is K L C accepted D h) (opposites-are A hs)
+  opposites-are (D ∷ A) (h, hs) = ap₂ _∷_ (opposite-is K L C D h) (opposites-are A hs)
 
   sound-sum : {D E : Divisor} {A B : List Divisor} → Sound D A → Sound E B → Sound (plus K C D E) (A ++ B)
   sound-sum {D} {E} {A} {B} a b =
@@ -72,10 +73,10 @@ module _ (K : Arithmetic) (L : Lawful K) (C : Curve) (accepted : Accepted K C) w
   sound-negative : {D : Divisor} {A : List Divisor} → Sound D A → Sound (opposite K D) (map (opposite K) A)
   sound-negative {D} {A} a =
       record {
-        valid = opposite-valid K L C accepted D (a .valid);
+        valid = opposite-valid K L C D (a .valid);
         valid-account = opposites-valid A (a .valid-account);
         settled =
-            rw (opposite-is K L C accepted D (a .valid), opposites-are A (a .valid-account))
+            rw (opposite-is K L C D (a .valid), opposites-are A (a .valid-account))
             (S.settled-negative F H the-curve (a .settled));
       }
 
@@ -83,9 +84,9 @@ module _ (K : Arithmetic) (L : Lawful K) (C : Curve) (accepted : Accepted K C) w
   unfolding twice
   sound built-neutral =
       record {
-        valid = neutral-valid K L C accepted;
+        valid = neutral-valid K L C;
         valid-account = tt;
-        settled = rw (neutral-is K L C accepted) (S.settled-neutral F H the-curve);
+        settled = rw (neutral-is K L C) (S.settled-neutral F H the-curve);
       }
   sound (built-alone {D = D} h) =
       record { valid = h; valid-account = (h, tt); settled = S.settled-alone F H the-curve (valid-mumford K L C D h) }

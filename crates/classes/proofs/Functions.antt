@@ -2,10 +2,9 @@
 -- polynomials: sums, products, conjugates and norms agree.
 use mathlib.Core.Path.{_≡_, refl, sym, _∙_, ap}
 use mathlib.Core.Logic.{_≢_}
-use Rattle.algebra.specs.Ring.{Ops, Laws, sub}
+use Rattle.algebra.specs.Ring.{Ops, Laws}
 use Rattle.fields.specs.Arithmetic.{Arithmetic}
 use Rattle.fields.specs.Lawful.{Lawful}
-use Rattle.polynomials.specs.Polynomial.{Polynomial}
 use Rattle.polynomials.specs.Proper.{Listed}
 use Rattle.polynomials.proofs.Listed.{list-path, listed-path, polynomials}
 use Rattle.polynomials.proofs.Presentation.{list-laws}

@@ -1,7 +1,7 @@
 -- The growth of a function over a lawful field is that of the pair of polynomials.
 use mathlib.Core.Path.{_≡_, refl, sym, _∙_, ap, ap₂}
 use mathlib.Core.Logic.{_≢_}
-use mathlib.Core.Bool.{Bool, true, false}
+use mathlib.Core.Bool.{true, false}
 use mathlib.Core.List.{[], _∷_}
 use Prim.Native.Nat.{ℕ, suc, pred, _+_, _-_, _≤_}
 use native.Mathlib.Decide.{decLe}
@@ -11,7 +11,6 @@ use borrow.Author.Tests.{le-leb, lt-leb}
 use lib.Dec.{leb}
 use lib.IntN.{ℤ, pos, _+ℤ_, _-ℤ_}
 use lib.ListN.{length}
-use Rattle.std.proofs.shelf.Ways.{tells}
 use Rattle.std.proofs.shelf.Signed.{ints}
 use Rattle.algebra.specs.Field.{Field}
 use Rattle.algebra.specs.Polynomials.{Polynomials}

@@ -1,6 +1,5 @@
 -- The members of a divisor are those of its polynomials u and v; they are closed under sums, and those of a valid divisor
 -- under multiplication by any function.
-use mathlib.Core.Path.{_≡_}
 use Rattle.algebra.specs.Ring.{Ops}
 use Rattle.fields.specs.Arithmetic.{Arithmetic}
 use Rattle.fields.specs.Lawful.{Lawful}
@@ -9,7 +8,6 @@ use Rattle.polynomials.proofs.Listed.{list-path, listed-path, polynomials}
 use Rattle.polynomials.proofs.Presentation.{list-laws}
 use Rattle.mumford.specs.Functions as M
 use Rattle.mumford.specs.Divisors.{Members}
-use Rattle.mumford.proofs.Sums.{Ideal}
 use Rattle.mumford.proofs.Members.{members-closed, members-ideal}
 use Rattle.methods.specs.declared.curve.Curve.{Curve}
 use Rattle.methods.specs.declared.divisor.Divisor.{Divisor}
