@@ -3,3 +3,5 @@ pub mod SquareRoots
 pub mod Curves
 pub mod Shapes
 pub mod Representations
+pub mod Compositions
+pub mod Theorems
