@@ -21,10 +21,10 @@ use Rattle.methods.specs.Divisors.{Valid, opposite}
 use Rattle.methods.specs.Sums.{plus, twice}
 use Rattle.methods.proofs.Curves.{f-of, V-of, curve}
 use Rattle.methods.proofs.Representations.{mumford-of, valid-mumford}
+use Rattle.methods.proofs.Negatives.{neutral-valid, neutral-mumford, opposite-valid, opposite-mumford}
+use Rattle.methods.proofs.Additions.{plus-sum, plus-valid}
 use Rattle.classes.specs.Settling.{Settles, Built, built-neutral, built-alone, built-sum, built-double, built-negative}
 use Rattle.classes.proofs.Accounts.{account-of, settles-lists}
-use Rattle.classes.proofs.Opposites.{neutral-valid, neutral-is, opposite-valid, opposite-is}
-use Rattle.classes.proofs.Assumed.{plus-valid, plus-sum}
 
 -- what each of two rows has, their join has
 each-++ : {P : Type 0} (Q : P → Type 0) (A B : List P) → Each Q A → Each Q B → Each Q (A ++ B)
@@ -57,7 +57,7 @@ module _ (K : Arithmetic) (L : Lawful K) (C : Curve) (accepted : Accepted K C) w
   opposites-are : (A : List Divisor) → Each (Valid K C) A
       → account-of K L (map (opposite K) A) ≡ map (M.negative (polynomials K L) (presentation K L .size)) (account-of K L A)
   opposites-are [] h = refl
-  opposites-are (D ∷ A) (h, hs) = ap₂ _∷_ (opposite-is K L C D h) (opposites-are A hs)
+  opposites-are (D ∷ A) (h, hs) = ap₂ _∷_ (opposite-mumford K L C D h) (opposites-are A hs)
 
   sound-sum : {D E : Divisor} {A B : List Divisor} → Sound D A → Sound E B → Sound (plus K C D E) (A ++ B)
   sound-sum {D} {E} {A} {B} a b =
@@ -76,7 +76,7 @@ module _ (K : Arithmetic) (L : Lawful K) (C : Curve) (accepted : Accepted K C) w
         valid = opposite-valid K L C D (a .valid);
         valid-account = opposites-valid A (a .valid-account);
         settled =
-            rw (opposite-is K L C D (a .valid), opposites-are A (a .valid-account))
+            rw (opposite-mumford K L C D (a .valid), opposites-are A (a .valid-account))
             (S.settled-negative F H the-curve (a .settled));
       }
 
@@ -86,7 +86,7 @@ module _ (K : Arithmetic) (L : Lawful K) (C : Curve) (accepted : Accepted K C) w
       record {
         valid = neutral-valid K L C;
         valid-account = tt;
-        settled = rw (neutral-is K L C) (S.settled-neutral F H the-curve);
+        settled = rw (neutral-mumford K L C) (S.settled-neutral F H the-curve);
       }
   sound (built-alone {D = D} h) =
       record { valid = h; valid-account = (h, tt); settled = S.settled-alone F H the-curve (valid-mumford K L C D h) }
