@@ -1,0 +1,10 @@
+pub mod Values
+pub mod SquareRoots
+pub mod Curves
+pub mod Shapes
+pub mod Representations
+pub mod Compositions
+pub mod Reductions
+pub mod Additions
+pub mod Negatives
+pub mod Theorems
