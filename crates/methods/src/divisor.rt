@@ -1,5 +1,6 @@
 // Divisors in Mumford representation, with a count for one of the two points at infinity.
 ghost use mathlib.Core.Path.{_≡_};
+ghost use mathlib.Core.Bool.{_&&_};
 ghost use Rattle.fields.specs.Lawful.{Lawful};
 ghost use Rattle.polynomials.specs.Ten.{value};
 ghost use Rattle.methods.specs.Divisors.{u-of, v-of, shaped, unused, linear-codes, on-curve, entered as entered-as, opposite, divisor-refusal-number};
@@ -88,7 +89,7 @@ pub fn entered<F: Field>(field: &F, curve: Curve, d: Divisor) -> Result<Divisor,
     if !is_shaped(d) {
         return Err(DivisorRefusal::Shape);
     }
-    if !has_codes(field, d.u) || !has_codes(field, d.v) {
+    if !has_codes(field, d) {
         return Err(DivisorRefusal::NotACode);
     }
     if !is_on_curve(field, curve, d) {
@@ -130,10 +131,12 @@ fn is_unused(degree: u8, l: Linear) -> bool
     }
 }
 
-fn has_codes<F: Field>(field: &F, l: Linear) -> bool
-    ensures { λ r. ⌜ r ≡ linear-codes (F·Field .meaning (now (field .entry))) l ⌝ }
+// Whether all coefficients are codes.
+fn has_codes<F: Field>(field: &F, d: Divisor) -> bool
+    ensures { λ r. ⌜ r ≡ linear-codes (F·Field .meaning (now (field .entry))) (d .u) && linear-codes (F·Field .meaning (now (field .entry))) (d .v) ⌝ }
 {
-    l.x1 < field.size() && l.x0 < field.size()
+    let q = field.size();
+    d.u.x1 < q && d.u.x0 < q && d.v.x1 < q && d.v.x0 < q
 }
 
 // Whether u divides f − v².
