@@ -2,4 +2,5 @@ pub mod Curves
 pub mod Divisors
 pub mod Drafts
 pub mod Sums
+pub mod Steps
 pub mod Methods

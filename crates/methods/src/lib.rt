@@ -11,7 +11,9 @@ pub use draft::Draft;
 pub use draft::Model;
 pub use method::Method;
 
+mod composition;
 mod curve;
 mod divisor;
 mod draft;
 mod method;
+mod reduction;
