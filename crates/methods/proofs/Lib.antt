@@ -1,3 +1,4 @@
 pub mod Composing
 pub mod Entry
 pub mod Reading
+pub mod Reducing

@@ -8,13 +8,15 @@ use native.Mathlib.Omega.{arith}
 use lib.Dec.{ltb}
 use lib.ListN.{length, replicate}
 use Rattle.fields.specs.Arithmetic.{Arithmetic}
+use Rattle.fields.specs.Lawful.{Lawful}
 use Rattle.polynomials.specs.Polynomial.{attach, trim}
+use Rattle.polynomials.specs.Proper.{Proper}
 use Rattle.polynomials.specs.Ten.{code, value}
-use Rattle.polynomials.proofs.Tens.{value-length}
+use Rattle.polynomials.proofs.Tens.{value-length, value-proper}
 use Rattle.methods.specs.declared.divisor.Linear.{Linear}
 use Rattle.methods.specs.declared.divisor.Divisor.{Divisor}
 use Rattle.methods.specs.declared.curve.Curve.{Curve}
-use Rattle.methods.specs.Curves.{sextic, root}
+use Rattle.methods.specs.Curves.{sextic, half, root}
 use Rattle.methods.specs.Divisors.{monic-codes, u-of, v-of}
 
 either-zero : (b : Bool) → _≡_ {A = ℕ} (cond b 0 0) 0
@@ -71,3 +73,11 @@ module _ (K : Arithmetic) where
   pub sextic-short : (C : Curve) → length (sextic K C) ≤ 7
   unfolding sextic
   sextic-short C = value-length K (C .f0 ∷ C .f1 ∷ C .f2 ∷ C .f3 ∷ C .f4 ∷ 0 ∷ 1 ∷ [])
+
+  pub root-short : (C : Curve) → length (root K C) ≤ 4
+  unfolding root
+  root-short C = value-length K (half K C (C .f3) ∷ half K C (C .f4) ∷ 0 ∷ 1 ∷ [])
+
+  pub root-proper : Lawful K → (C : Curve) → Proper K (root K C)
+  unfolding root
+  root-proper L C = value-proper K L (half K C (C .f3) ∷ half K C (C .f4) ∷ 0 ∷ 1 ∷ [])
