@@ -1,4 +1,11 @@
-pub mod Composing
-pub mod Entry
+pub mod Values
+pub mod SquareRoots
+pub mod Curves
+pub mod Shapes
+pub mod Representations
+pub mod Compositions
+pub mod Theorems
 pub mod Reading
+pub mod Entry
+pub mod Composing
 pub mod Reducing

@@ -1,27 +1,17 @@
 -- Ten numbers that end in zeros are read as the numbers before them.
 use mathlib.Core.Path.{_≡_, refl, sym, ap, ap₂}
 use mathlib.Core.Logic.{_≢_}
-use mathlib.Core.Bool.{Bool, true, false, cond}
 use mathlib.Core.List.{List, [], _∷_, _++_, map}
 use Prim.Native.Nat.{ℕ, zero, suc, _≤_}
 use native.Mathlib.Omega.{arith}
-use lib.Dec.{ltb}
 use lib.ListN.{length, replicate}
 use Rattle.fields.specs.Arithmetic.{Arithmetic}
-use Rattle.fields.specs.Lawful.{Lawful}
 use Rattle.polynomials.specs.Polynomial.{attach, trim}
-use Rattle.polynomials.specs.Proper.{Proper}
 use Rattle.polynomials.specs.Ten.{code, value}
-use Rattle.polynomials.proofs.Tens.{value-length, value-proper}
+use Rattle.polynomials.proofs.Tens.{code-zero, value-length}
 use Rattle.methods.specs.declared.divisor.Linear.{Linear}
 use Rattle.methods.specs.declared.divisor.Divisor.{Divisor}
-use Rattle.methods.specs.declared.curve.Curve.{Curve}
-use Rattle.methods.specs.Curves.{sextic, half, root}
 use Rattle.methods.specs.Divisors.{monic-codes, u-of, v-of}
-
-either-zero : (b : Bool) → _≡_ {A = ℕ} (cond b 0 0) 0
-either-zero true = refl
-either-zero false = refl
 
 monic-codes-two : (d : ℕ) (l : Linear) → d ≢ 0 → d ≢ 1 → monic-codes d l ≡ l .x0 ∷ l .x1 ∷ 1 ∷ []
 monic-codes-two zero l z o = absurd (z refl)
@@ -36,7 +26,7 @@ monic-codes-few (suc (suc d)) l = omega arith
 module _ (K : Arithmetic) where
   zeros-read : (n : ℕ) → trim (map (code K) (replicate n 0)) ≡ []
   zeros-read zero = refl
-  zeros-read (suc n) = ap₂ attach (either-zero (ltb 0 (K .size))) (zeros-read n)
+  zeros-read (suc n) = ap₂ attach (code-zero K) (zeros-read n)
 
   padded-read : (c : List ℕ) (n : ℕ) → trim (map (code K) (c ++ replicate n 0)) ≡ trim (map (code K) c)
   padded-read [] n = zeros-read n
@@ -69,15 +59,3 @@ module _ (K : Arithmetic) where
   pub v-short : (D : Divisor) → length (v-of K D) ≤ 2
   unfolding v-of
   v-short D = value-length K (D .v .x0 ∷ D .v .x1 ∷ [])
-
-  pub sextic-short : (C : Curve) → length (sextic K C) ≤ 7
-  unfolding sextic
-  sextic-short C = value-length K (C .f0 ∷ C .f1 ∷ C .f2 ∷ C .f3 ∷ C .f4 ∷ 0 ∷ 1 ∷ [])
-
-  pub root-short : (C : Curve) → length (root K C) ≤ 4
-  unfolding root
-  root-short C = value-length K (half K C (C .f3) ∷ half K C (C .f4) ∷ 0 ∷ 1 ∷ [])
-
-  pub root-proper : Lawful K → (C : Curve) → Proper K (root K C)
-  unfolding root
-  root-proper L C = value-proper K L (half K C (C .f3) ∷ half K C (C .f4) ∷ 0 ∷ 1 ∷ [])

@@ -22,9 +22,8 @@ use Rattle.methods.specs.declared.divisor.Divisor.{Divisor}
 use Rattle.methods.specs.declared.composition.Composition.{Composition}
 use Rattle.methods.specs.Curves.{sextic, root}
 use Rattle.methods.specs.Divisors.{divisor-of}
-use Rattle.methods.specs.Sums.{Composite, deg, monic, lifted, stepped-by, stepped, in-range, reduced}
-use Rattle.methods.specs.Steps.{composite-of, Fair}
-use Rattle.methods.proofs.Reading.{root-short}
+use Rattle.methods.specs.Sums.{Composite, Fair, deg, monic, lifted, stepped-by, stepped, in-range, reduced}
+use Rattle.methods.specs.Steps.{composite-of}
 
 module _ (K : Arithmetic) (V : Polynomial) (c : Composite) where
   -- w in the three cases
@@ -51,12 +50,18 @@ module _ (K : Arithmetic) (V : Polynomial) (c : Composite) where
       at : Dec (length (c .u) ≡ 5) → (n : ℕ) → c .n+1 ≡ n → length (lifted K V c) ≤ 4
       at (yes e) n z = omega (arith, ap length (lifted-four e), fair .v-smaller)
       at (no e) zero z =
-          omega (arith, ap length (lifted-below e z),
-          sum-length K (negative K V) (remainder K (sum K (c .v) V) (c .u)) 4
-          (omega (arith, negative-length K V)) (rest-short (sum-proper K L pv pV) e))
+          omega (
+            arith,
+            ap length (lifted-below e z),
+            sum-length K (negative K V) (remainder K (sum K (c .v) V) (c .u)) 4
+                (omega (arith, negative-length K V)) (rest-short (sum-proper K L pv pV) e),
+          )
       at (no e) (suc n) z =
-          omega (arith, ap length (lifted-above e n z),
-          sum-length K V (remainder K (difference K (c .v) V) (c .u)) 4 V-most (rest-short (difference-proper K L pv V) e))
+          omega (
+            arith,
+            ap length (lifted-above e n z),
+            sum-length K V (remainder K (difference K (c .v) V) (c .u)) 4 V-most (rest-short (difference-proper K L pv V) e),
+          )
 
 module _ (K : Arithmetic) (C : Curve) (c : Composition) where
   -- The step, from the numbers that stand for w, u′ and −w, v′ and n′.

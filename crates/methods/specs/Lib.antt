@@ -4,3 +4,4 @@ pub mod Drafts
 pub mod Sums
 pub mod Steps
 pub mod Methods
+pub mod Theorems

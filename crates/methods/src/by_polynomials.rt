@@ -2,7 +2,6 @@
 ghost use mathlib.Core.Path.{_≡_};
 ghost use Rattle.fields.specs.Arithmetic.{Arithmetic};
 ghost use Rattle.fields.specs.Lawful.{Lawful};
-ghost use Rattle.methods.specs.Curves.{Accepted};
 ghost use Rattle.methods.specs.Divisors.{Valid};
 ghost use Rattle.methods.specs.Sums.{plus};
 ghost use Rattle.methods.specs.Methods.{the-law};
@@ -36,7 +35,7 @@ pub impl<F: Field> Method<F> for ByPolynomials as ByPolynomialsMethod {
 
 // The sum of two valid divisors.
 fn sum<F: Field>(field: &F, curve: Curve, a: Divisor, b: Divisor) -> Divisor
-    ensures { λ r. ⌜ (let K : Arithmetic = F·Field .meaning (now (field .entry)) in Lawful K → Accepted K curve → Valid K curve a → Valid K curve b → r ≡ plus K curve a b) ⌝ }
+    ensures { λ r. ⌜ (let K : Arithmetic = F·Field .meaning (now (field .entry)) in Lawful K → Valid K curve a → Valid K curve b → r ≡ plus K curve a b) ⌝ }
 {
     reduce(field, curve, compose(field, curve, a, b))
 }

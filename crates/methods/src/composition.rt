@@ -3,10 +3,10 @@ ghost use mathlib.Core.Path.{_≡_};
 ghost use Rattle.fields.specs.Arithmetic.{Arithmetic};
 ghost use Rattle.fields.specs.Lawful.{Lawful};
 ghost use Rattle.polynomials.specs.Ten.{value};
-ghost use Rattle.methods.specs.Curves.{sextic as sextic-of, Accepted};
+ghost use Rattle.methods.specs.Curves.{sextic as sextic-of};
 ghost use Rattle.methods.specs.Divisors.{u-of, v-of, Valid};
-ghost use Rattle.methods.specs.Sums.{numerator as numerator-of, composed};
-ghost use Rattle.methods.specs.Steps.{bezout-of, composite-of, Combining, Short};
+ghost use Rattle.methods.specs.Sums.{Combining, numerator as numerator-of, composed};
+ghost use Rattle.methods.specs.Steps.{bezout-of, composite-of, Short};
 use crate::curve::Curve;
 use crate::curve::sextic;
 use crate::divisor::Divisor;
@@ -72,7 +72,7 @@ fn numerator<F: Field>(field: &F, curve: Curve, z: Cofactors, a: Divisor, b: Div
 // With d = gcd(u1, u2, v1 + v2) = e1·u1 + e2·u2 + e3·(v1 + v2): u = u1·u2/d², v is the remainder by u of
 // (e1·u1·v2 + e2·u2·v1 + e3·(v1·v2 + f))/d, and n = n1 + n2 + deg d − 1.
 pub fn compose<F: Field>(field: &F, curve: Curve, a: Divisor, b: Divisor) -> Composition
-    ensures { λ r. ⌜ (let K : Arithmetic = F·Field .meaning (now (field .entry)) in Lawful K → Accepted K curve → Valid K curve a → Valid K curve b → composite-of K r ≡ composed K (sextic-of K curve) a b) ⌝ }
+    ensures { λ r. ⌜ (let K : Arithmetic = F·Field .meaning (now (field .entry)) in Lawful K → Valid K curve a → Valid K curve b → composite-of K r ≡ composed K (sextic-of K curve) a b) ⌝ }
 {
     let z = bezout(field, a, b);
     let (u, _) = divide(

@@ -1,14 +1,16 @@
-use mathlib.Core.Path.{_≡_}
+use mathlib.Core.Path.{_≡_, _∙_}
 use Prim.Native.Nat.{_+_, _-_}
 use native.Mathlib.Omega.{arith}
 use lib.ListN.{length}
 use Rattle.polynomials.specs.Ten.{value}
 use Rattle.methods.specs.declared.composition.Composition.{Composition}
+use Rattle.methods.specs.Steps.{bezout-of}
+use Rattle.methods.proofs.Compositions.{composed-same}
 use Rattle.methods.proofs.Composing.{composition-is}
 use Rattle.methods.proofs.composition.compose.Needs as need
 
 pub returns : need.returns
-returns g c L accepted va vb =
+returns g c L va vb =
     let K = g .F·Field .meaning (c .args .field .now) in
     let D = c .args .a in
     let E = c .args .b in
@@ -22,4 +24,4 @@ returns g c L accepted va vb =
     _ _ _ _ (c .product .ensures L) (c .product-2 .ensures L) (c .divide .ensures .quotient L)
     (c .numerator .ensures L few) (c .divide-2 .ensures .quotient L) (c .divide-3 .ensures .remainder L) counted
     in
-    ?
+    by ∙ composed-same K L D E (c .args .curve) va vb (bezout-of K z) (c .bezout-z .ensures L .0)

@@ -6,7 +6,7 @@ use Rattle.polynomials.specs.Ten.{value}
 use Rattle.polynomials.proofs.Tens.{value-proper}
 use Rattle.methods.specs.Curves.{root}
 use Rattle.methods.specs.Steps.{composite-of}
-use Rattle.methods.proofs.Reading.{root-short, root-proper}
+use Rattle.methods.proofs.Curves.{root-proper, root-length}
 use Rattle.methods.proofs.Reducing.{lifted-short, step-is}
 use Rattle.methods.proofs.reduction.step.Needs as need
 
@@ -17,7 +17,7 @@ returns g c L fair =
     let S = c .args .c in
     let w = c .lift-w .ensures L in
     let w-most =
-    lifted-short K (root K C) (composite-of K S) L (root-proper K L C) (root-short K C)
+    lifted-short K (root K C) (composite-of K S) L (root-proper K L C) (omega (arith, root-length K L C))
     (value-proper K L (S .u .codes)) (value-proper K L (S .v .codes)) fair
     in
     let few : length (value K (c .lift-w .result .codes)) ≤ 5 = omega (arith, w-most, ap length w) in

@@ -9,4 +9,4 @@ returns g c L accepted =
     let C = c .args .curve in
     let va = accepted-valid K C (c .args .a) _ (c .in-Continue-entered .ensures tt L) in
     let vb = accepted-valid K C (c .args .b) _ (c .in-Continue-entered-2 .ensures tt L) in
-    ap Ok (c .sum .ensures L accepted va vb) ∙ sym (added-valid K C (c .args .a) (c .args .b) va vb)
+    ap Ok (c .sum .ensures L va vb) ∙ sym (added-valid K C (c .args .a) (c .args .b) va vb)

@@ -10,4 +10,4 @@ returns g c L accepted =
     let K = g .F·Field .meaning (c .args .field .now) in
     let C = c .args .curve in
     let va = accepted-valid K C (c .args .a) _ (c .in-Continue-entered .ensures tt L) in
-    ap Ok (c .sum .ensures L accepted va va) ∙ sym (doubled-valid K C (c .args .a) va)
+    ap Ok (c .sum .ensures L va va) ∙ sym (doubled-valid K C (c .args .a) va)
