@@ -8,3 +8,4 @@ pub mod Reductions
 pub mod Additions
 pub mod Negatives
 pub mod Theorems
+pub mod Worked

@@ -4,3 +4,4 @@ pub mod Drafts
 pub mod Sums
 pub mod Methods
 pub mod Theorems
+pub mod Worked
