@@ -5,3 +5,4 @@ pub mod Sums
 pub mod Steps
 pub mod Methods
 pub mod Theorems
+pub mod Worked
