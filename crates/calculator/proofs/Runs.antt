@@ -44,12 +44,11 @@ module _ (K : Arithmetic) (L : Lawful K) (C : Curve) (accepted : Accepted K C) w
         each = λ k lt. (built-valid K L C accepted (built .each k lt), built-settles K L C accepted (built .each k lt));
       }
 
-module _ {F M : Type 0} (field : Ghosts F) (law : Law) where
-  -- From a fresh calculator each register settles the account that the calls draw up.
-  pub settled : (calls : List Call) (old new : Calculator F M) (answers : List Answer) → LeftAll field law calls old new answers
-      → Settled field law calls old new
-  settled calls old new answers left sound fresh =
-      let K = arithmetic field old in
-      let C = old .model .curve in
-      let start : AllBuilt K C (held old) (replicate 16 []) = rw fresh (fresh-built K (sound .lawful) C (sound .accepted)) in
-      built-settle K (sound .lawful) C (sound .accepted) (held new) _ (left .accounts sound (replicate 16 []) start)
+-- From a fresh calculator each register settles the account that the calls draw up.
+pub settled : {F M : Type 0} {field : Ghosts F} {law : Law} {calls : List Call} {old new : Calculator F M} {answers : List Answer}
+    → LeftAll field law calls old new answers → Settled field law calls old new
+settled {field = field} {old = old} {new = new} left sound fresh =
+    let K = arithmetic field old in
+    let C = old .model .curve in
+    let start : AllBuilt K C (held old) (replicate 16 []) = rw fresh (fresh-built K (sound .lawful) C (sound .accepted)) in
+    built-settle K (sound .lawful) C (sound .accepted) (held new) _ (left .accounts sound (replicate 16 []) start)

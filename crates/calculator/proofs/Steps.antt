@@ -1,5 +1,5 @@
 -- One call: registers that were built with accounts, whichever these are, are built after it with those that it draws up.
-use mathlib.Core.Path.{_≡_, refl, _∙_}
+use mathlib.Core.Path.{_≡_, refl, sym, _∙_}
 use mathlib.Core.Bool.{Bool, true, false, cond}
 use mathlib.Core.List.{List, [], _∷_, _++_, map}
 use mathlib.Core.Logic.{inl, inr}
@@ -17,7 +17,8 @@ use Rattle.methods.specs.declared.curve.Curve.{Curve}
 use Rattle.methods.specs.declared.divisor.Divisor.{Divisor}
 use Rattle.methods.specs.declared.divisor.DivisorRefusal.{DivisorRefusal}
 use Rattle.methods.specs.Curves.{Accepted}
-use Rattle.methods.specs.Divisors.{neutral, entered}
+use Rattle.methods.specs.Divisors.{Valid, neutral, entered}
+use Rattle.methods.proofs.Entry.{accepted-valid, added-valid, doubled-valid}
 use Rattle.classes.specs.Settling.{Built, built-alone, built-sum, built-double, built-negative}
 use Rattle.classes.proofs.Built.{built-valid}
 use Rattle.calculator.specs.declared.call.Call.{Call}
@@ -26,7 +27,6 @@ use Rattle.calculator.specs.declared.call.CallRefusal.{CallRefusal}
 use Rattle.calculator.specs.declared.call.CallRefusal.the-variants.{NoSuchRegister}
 use Rattle.calculator.specs.Calls.{at, numbered, or-invalid, put, next}
 use Rattle.calculator.specs.Accounts.{Account, account, alone, Sixteen, AllBuilt, booked}
-use Rattle.calculator.proofs.Entry.{entered-valid, added-valid, doubled-valid}
 
 -- What holds of two rows, place by place, holds after a write to both at one place.
 set-both : {X Y : Type 0} (P : X → Y → Type 0) (n : ℕ) (xs : List X) (ys : List Y) (i : ℕ) (x a : X) (y b : Y)
@@ -81,7 +81,10 @@ module _ (P : Divisor → Account → Type 0) where
 module _ (K : Arithmetic) (L : Lawful K) (C : Curve) (accepted : Accepted K C) where
   -- What is entered is built with itself alone.
   enter-built : (D : Divisor) (r : Result Divisor DivisorRefusal) → entered K C D ≡ r → Match (Built K C) (or-invalid r) (alone (or-invalid r))
-  enter-built D (Ok E) e = built-alone (entered-valid K C D E e)
+  enter-built D (Ok E) e =
+      let valid : Valid K C D = accepted-valid K C D E (sym e) in
+      let same : E ≡ D = cc in
+      built-alone (rw same valid)
   enter-built D (Err why) e = tt
 
   -- The step, for each kind of call.

@@ -6,6 +6,7 @@ use Rattle.std.specs.declared.result.Result.{Result}
 use Rattle.fields.specs.Arithmetic.{Arithmetic}
 use Rattle.fields.specs.Lawful.{Lawful}
 use Rattle.fields.specs.declared.field.Field.{Ghosts}
+use Rattle.methods.specs.declared.curve.Curve.{Curve}
 use Rattle.methods.specs.declared.divisor.Divisor.{Divisor}
 use Rattle.methods.specs.Curves.{Accepted}
 use Rattle.methods.specs.Methods.{Law, LawfulMethod}
@@ -49,6 +50,10 @@ module _ {F M : Type 0} where
     abbrev pub arithmetic : Calculator F M → Arithmetic
     arithmetic c = field .meaning (c .model .field)
 
+    -- a definition over the field and the curve of a calculator
+    abbrev pub on {ℓ} : {X : Type ℓ} → Calculator F M → (Arithmetic → Curve → X) → X
+    on c f = f (arithmetic c) (c .model .curve)
+
     -- The field is lawful, the curve accepted and the method lawful.
     pub record Sound (law : Law) (c : Calculator F M) : Type 0 where
       pub lawful : Lawful (arithmetic c)
@@ -57,38 +62,36 @@ module _ {F M : Type 0} where
 
     -- What a call gives, by the definitions of sum, double and negative; or why it is refused.
     abbrev pub gives : Calculator F M → Call → Result Divisor CallRefusal
-    gives c call = given (arithmetic c) (c .model .curve) (held c) call
+    gives c call = on c given (held c) call
 
     -- What a call leaves: the model as it was; the registers of its definition; and, whatever sixteen accounts the registers were
     -- built with, registers that are built with the accounts that the call draws up from those.
     pub record Left (law : Law) (call : Call) (old new : Calculator F M) : Type 0 where
       pub model : new .model ≡ old .model
-      pub registers : Sound law old → held new ≡ next (arithmetic old) (old .model .curve) (held old) call
-      pub accounts : Sound law old → (books : List Account) → AllBuilt (arithmetic old) (old .model .curve) (held old) books
-          → AllBuilt (arithmetic old) (old .model .curve) (held new) (booked (arithmetic old) (old .model .curve) books call)
+      pub registers : Sound law old → held new ≡ on old next (held old) call
+      pub accounts : Sound law old → (books : List Account) → on old AllBuilt (held old) books
+          → on old AllBuilt (held new) (on old booked books call)
 
-    -- What a list of calls leaves, and what was answered: the same of calls one after another.
+    -- What calls leave, one after another, and what was answered to them.
     pub record LeftAll (law : Law) (calls : List Call) (old new : Calculator F M) (answers : List Answer) : Type 0 where
       pub model : new .model ≡ old .model
-      pub answered : Sound law old → answers ≡ replies (arithmetic old) (old .model .curve) (held old) calls
-      pub registers : Sound law old → held new ≡ nexts (arithmetic old) (old .model .curve) (held old) calls
-      pub accounts : Sound law old → (books : List Account) → AllBuilt (arithmetic old) (old .model .curve) (held old) books
-          → AllBuilt (arithmetic old) (old .model .curve) (held new) (all-booked (arithmetic old) (old .model .curve) books calls)
+      pub answered : Sound law old → answers ≡ on old replies (held old) calls
+      pub registers : Sound law old → held new ≡ on old nexts (held old) calls
+      pub accounts : Sound law old → (books : List Account) → on old AllBuilt (held old) books
+          → on old AllBuilt (held new) (on old all-booked books calls)
 
     -- The account theorem: after any list of calls to a fresh calculator, refused ones included, each of the sixteen registers
     -- holds a valid divisor that settles the account drawn up for it.
     abbrev pub Settled : Law → List Call → Calculator F M → Calculator F M → Type 0
-    Settled law calls old new =
-        Sound law old → Fresh old
-        → AllSettle (arithmetic old) (old .model .curve) (held new) (accounts (arithmetic old) (old .model .curve) calls)
+    Settled law calls old new = Sound law old → Fresh old → on old AllSettle (held new) (on old accounts calls)
 
--- Two calculators, on fields of one meaning and the same curve.
+-- Two calculators on fields of one meaning and on the same curve.
 pub record SameModel {F G M N : Type 0} (field-1 : Ghosts F) (field-2 : Ghosts G) (c : Calculator F M) (d : Calculator G N) : Type 0 where
   pub meaning : arithmetic field-1 c ≡ arithmetic field-2 d
   pub curve : c .model .curve ≡ d .model .curve
 
--- The agreement of two calculators that are sent the same calls: equal answers to every call, hence equal numbers of refusals,
--- and equal divisors in all sixteen registers after it.
+-- Two calculators agree on calls: equal answers to every call, so that the refusals have equal numbers, and equal divisors in all
+-- sixteen registers after them.
 pub record Agree {F G M N : Type 0} (answers-1 answers-2 : List Answer) (c : Calculator F M) (d : Calculator G N) : Type 0 where
   pub answered : answers-1 ≡ answers-2
   pub registers : held c ≡ held d

@@ -5,7 +5,6 @@ ghost use Rattle.calculator.specs.Calls.{at, sixteen-neutral, or-invalid, noth
 use crate::call::CallRefusal;
 use methods::Divisor;
 use methods::DivisorRefusal;
-use methods::Linear;
 
 #[derive(Clone, Copy)]
 pub struct Registers {
@@ -17,14 +16,8 @@ impl Registers {
     pub fn new() -> Registers
         ensures { λ r. ⌜ r .divisors ≡ sixteen-neutral ⌝ }
     {
-        let neutral = Divisor {
-            degree: 0,
-            u: Linear { x1: 0, x0: 0 },
-            v: Linear { x1: 0, x0: 0 },
-            n: 1,
-        };
         Registers {
-            divisors: [neutral; 16],
+            divisors: [Divisor::neutral(); 16],
         }
     }
 
