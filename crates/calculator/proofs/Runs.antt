@@ -17,7 +17,7 @@ use Rattle.calculator.specs.declared.call.Call.{Call}
 use Rattle.calculator.specs.declared.calculator.Calculator.{Calculator}
 use Rattle.calculator.specs.Calls.{sixteen-neutral, next, nexts}
 use Rattle.calculator.specs.Accounts.{Account, AllBuilt, AllSettle, booked, all-booked}
-use Rattle.calculator.specs.Calculators.{held, arithmetic, LeftAll, Settled}
+use Rattle.calculator.specs.Calculators.{held, arithmetic, Left, Accounted, LeftAll, Settled}
 use Rattle.calculator.proofs.Steps.{step}
 
 module _ (K : Arithmetic) (L : Lawful K) (C : Curve) (accepted : Accepted K C) where
@@ -44,11 +44,17 @@ module _ (K : Arithmetic) (L : Lawful K) (C : Curve) (accepted : Accepted K C) w
         each = λ k lt. (built-valid K L C accepted (built .each k lt), built-settles K L C accepted (built .each k lt));
       }
 
--- From a fresh calculator each register settles the account that the calls draw up.
-pub settled : {F M : Type 0} {field : Ghosts F} {law : Law} {calls : List Call} {old new : Calculator F M} {answers : List Answer}
-    → LeftAll field law calls old new answers → Settled field law calls old new
-settled {field = field} {old = old} {new = new} left sound fresh =
-    let K = arithmetic field old in
-    let C = old .model .curve in
-    let start : AllBuilt K C (held old) (replicate 16 []) = rw fresh (fresh-built K (sound .lawful) C (sound .accepted)) in
-    built-settle K (sound .lawful) C (sound .accepted) (held new) _ (left .accounts sound (replicate 16 []) start)
+module _ {F M : Type 0} {field : Ghosts F} {law : Law} {old new : Calculator F M} where
+  -- A call that leaves the registers of its definition obeys the law of accounts.
+  pub accounted : {call : Call} → Left field law call old new → Accounted field law call old new
+  accounted {call} left sound books built =
+      rw (left .registers sound)
+      (step (arithmetic field old) (sound .lawful) (old .model .curve) (sound .accepted) (held old) books call built)
+
+  -- From a fresh calculator each register settles the account that the calls draw up.
+  pub settled : {calls : List Call} {answers : List Answer} → LeftAll field law calls old new answers → Settled field law calls old new
+  settled {calls} left sound fresh =
+      let K = arithmetic field old in
+      let C = old .model .curve in
+      let start : AllBuilt K C (held old) (replicate 16 []) = rw fresh (fresh-built K (sound .lawful) C (sound .accepted)) in
+      built-settle K (sound .lawful) C (sound .accepted) (held new) _ (left .accounts sound (replicate 16 []) start)

@@ -64,15 +64,18 @@ module _ {F M : Type 0} where
     abbrev pub gives : Calculator F M → Call → Result Divisor CallRefusal
     gives c call = on c given (held c) call
 
-    -- What a call leaves: the model as it was; the registers of its definition; and, whatever sixteen accounts the registers were
-    -- built with, registers that are built with the accounts that the call draws up from those.
+    -- What a call leaves: the model as it was, and the registers of its definition.
     pub record Left (law : Law) (call : Call) (old new : Calculator F M) : Type 0 where
       pub model : new .model ≡ old .model
       pub registers : Sound law old → held new ≡ on old next (held old) call
-      pub accounts : Sound law old → (books : List Account) → on old AllBuilt (held old) books
-          → on old AllBuilt (held new) (on old booked books call)
 
-    -- What calls leave, one after another, and what was answered to them.
+    -- The law of a call: whatever sixteen accounts the registers were built with, after it they are built with the accounts that it
+    -- draws up from those.
+    abbrev pub Accounted : Law → Call → Calculator F M → Calculator F M → Type 0
+    Accounted law call old new =
+        Sound law old → (books : List Account) → on old AllBuilt (held old) books → on old AllBuilt (held new) (on old booked books call)
+
+    -- What calls leave, one after another, what was answered to them, and the same law of accounts.
     pub record LeftAll (law : Law) (calls : List Call) (old new : Calculator F M) (answers : List Answer) : Type 0 where
       pub model : new .model ≡ old .model
       pub answered : Sound law old → answers ≡ on old replies (held old) calls

@@ -1,7 +1,7 @@
 // The calculator and its calls.
 ghost use mathlib.Core.Path.{_≡_};
 ghost use Rattle.calculator.specs.Calls.{nothing, said};
-ghost use Rattle.calculator.specs.Calculators.{calls-of, answers-of, Fresh, Sound, gives, Left, LeftAll, Settled};
+ghost use Rattle.calculator.specs.Calculators.{calls-of, answers-of, Fresh, Sound, gives, Left, Accounted, LeftAll, Settled};
 use crate::call::Answer;
 use crate::call::Call;
 use crate::call::CallRefusal;
@@ -104,6 +104,7 @@ impl<F: Field, M: Method<F>> Calculator<F, M> {
     pub fn send(&mut self, call: Call) -> Answer
         ensures answer { λ r. ⌜ (Sound F·Field (M·Method .answers) (now (self .entry)) → r ≡ said call (gives F·Field (now (self .entry)) call)) ⌝ }
         ensures left { λ _. ⌜ Left F·Field (M·Method .answers) call (now (self .entry)) (now (self .exit)) ⌝ }
+        ensures accounted { λ _. ⌜ Accounted F·Field (M·Method .answers) call (now (self .entry)) (now (self .exit)) ⌝ }
     {
         match call {
             Call::Enter(target, divisor) => done(self.enter(target, divisor)),
