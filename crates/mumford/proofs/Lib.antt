@@ -14,7 +14,9 @@ pub mod Lines
 pub mod Degrees
 pub mod Remainders
 pub mod Composed
+pub mod Choice
 pub mod Reduced
 pub mod Addition
 pub mod Settled
 pub mod Settling
+pub mod Root
