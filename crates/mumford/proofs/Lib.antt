@@ -6,6 +6,8 @@ pub mod Congruences
 pub mod Composition
 pub mod Reduction
 pub mod Coprime
+pub mod ClosedQuotients
+pub mod ClosedReduction
 pub mod Smooth
 pub mod Approximation
 pub mod Norm
