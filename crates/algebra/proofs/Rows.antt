@@ -1,6 +1,7 @@
--- Polynomials by their lists of coefficients: coefficients, sizes, and which are monic.
+-- Polynomials by their lists of coefficients: coefficients, sizes, which are monic, and those whose coefficients are given by
+-- formulas.
 use mathlib.Core.Path.{_≡_, refl, sym, _∙_, ap, ap₂}
-use mathlib.Core.List.{List, [], _∷_}
+use mathlib.Core.List.{List, [], _∷_, map}
 use Prim.Native.Nat.{ℕ, zero, suc, _≤_}
 use native.Mathlib.Decide.{decLe}
 use native.Mathlib.Omega.{arith}
@@ -8,12 +9,14 @@ use lib.ListN.{length, getD, List·getD-eq-default}
 use Rattle.algebra.specs.Ring.{Ops}
 use Rattle.algebra.specs.Field.{Field}
 use Rattle.algebra.specs.Polynomials.{Polynomials, constant, x, Monic}
-use Rattle.algebra.specs.Rows.{row}
+use Rattle.algebra.specs.Rows.{horner, row}
 use Rattle.algebra.proofs.Elementary as R
+use Rattle.algebra.proofs.Expression.{Expr, eval}
 use Rattle.algebra.proofs.Degree as D
 use Rattle.algebra.proofs.PolynomialRing as A
 use Rattle.algebra.proofs.Size as Z
 use Rattle.algebra.proofs.Monic as M
+use Rattle.algebra.proofs.Constants.{constant-eval}
 
 module _ {K : Type 0} {o : Ops K} (F : Field o) {P : Type 0} {p : Ops P} (H : Polynomials o p) where
   open Polynomials H using (coefficient, size, ends)
@@ -47,3 +50,10 @@ module _ {K : Type 0} {o : Ops K} (F : Field o) {P : Type 0} {p : Ops P} (H : Po
 
   pub row-monic : {d : ℕ} (l : List K) → length l ≡ suc d → getD l d (o .nil) ≡ o .unit → Monic H (row H l)
   row-monic {d = d} l e top = M.leading-at F H (row H l) (size-row-monic l e top) ∙ row-at l d ∙ top
+
+  -- the formulas may be read in the ring of polynomials
+  pub row-eval : (ρ : List K) (l : List Expr)
+      → row H (map (eval o ρ) l) ≡ horner p (x H) (map (eval p (map (constant H) ρ)) l)
+  unfolding row
+  row-eval ρ [] = refl
+  row-eval ρ (e ∷ l) = ap₂ (λ c q. p .add c (p .mul (x H) q)) (constant-eval F H ρ e) (row-eval ρ l)

@@ -4,7 +4,7 @@ use mathlib.Core.List.{List, [], _∷_}
 use Rattle.algebra.specs.Ring.{Ops, Laws, sub}
 use Rattle.algebra.specs.Rows.{horner}
 use Rattle.algebra.proofs.Reify.{by-facts, _⋆_, terms}
-use Rattle.mumford.specs.ClosedForms.{Sextic, Quadratic, Line, two, norm, line, remaining}
+use Rattle.mumford.specs.ClosedForms.{Sextic, Quadratic, Line, two, norm, line, remaining, sum-a, sum-b}
 use Rattle.mumford.proofs.ClosedQuotients.{u-at, v-at, f-at, letters}
 
 module _ {P : Type 0} (p : Ops P) where
@@ -18,9 +18,8 @@ module _ {P : Type 0} (p : Ops P) where
   -- What u′ and v′ of a closed formula meet, for w = v2 + s·u2: the coefficients of x⁵ and x⁴ in
   -- f − w² = u1·u2·(1 − s1²)·u′, and v′ is the remainder of −w by u′.
   pub record Reducing (f : Sextic P) (D E S : Quadratic P) (s : Line P) : Type 0 where
-    pub at-5 : norm p (s .s1) · (S .a + D .a) ≡ neg (E .a) - s .s1 · (s .s0 + s .L2)
-    pub at-4 : norm p (s .s1) · (S .b + D .b + D .a · S .a)
-        ≡ f .f4 - E .b + E .a · E .a - s .s1 · (s .L1 + two p (E .c)) - s .s0 · s .L2
+    pub at-5 : norm p (s .s1) · (S .a + D .a) ≡ sum-a p E s
+    pub at-4 : norm p (s .s1) · (S .b + D .b + D .a · S .a) ≡ sum-b p f E s
     pub c-is : S .c ≡ remaining p E s (S .a) (S .b) .c
     pub e-is : S .e ≡ remaining p E s (S .a) (S .b) .e
 

@@ -8,6 +8,8 @@ pub mod Reduction
 pub mod Coprime
 pub mod ClosedQuotients
 pub mod ClosedReduction
+pub mod ClosedDivisors
+pub mod ClosedStep
 pub mod Smooth
 pub mod Approximation
 pub mod Norm

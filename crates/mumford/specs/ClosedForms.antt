@@ -100,14 +100,19 @@ module _ {C : Type 0} (op : Ops C) where
         o = (D .e - E .e) · z2 - (D .c - E .c) · z1 · D .b;
       }
 
+  -- (1 − s1²)·(a′ + a)
+  abbrev pub sum-a : Quadratic C → Line C → C
+  sum-a E s = neg (E .a) - s .s1 · (s .s0 + s .L2)
+
+  -- (1 − s1²)·(b′ + b + a·a′)
+  abbrev pub sum-b : Sextic C → Quadratic C → Line C → C
+  sum-b f E s = f .f4 - E .b + E .a · E .a - s .s1 · (s .L1 + two (E .c)) - s .s0 · s .L2
+
   -- i is the inverse of 1 − s1²
   abbrev pub sum-by : Sextic C → Quadratic C → Quadratic C → Line C → (i : C) → Quadratic C
   sum-by f D E s i =
-      let a′ : C = (neg (E .a) - s .s1 · (s .s0 + s .L2)) · i - D .a in
-      let b′ : C =
-        (f .f4 - E .b + E .a · E .a - s .s1 · (s .L1 + two (E .c)) - s .s0 · s .L2) · i - D .b - D .a · a′
-      in
-      remaining E s a′ b′
+      let a′ : C = sum-a E s · i - D .a in
+      remaining E s a′ (sum-b f E s · i - D .b - D .a · a′)
 
   -- The double of D.
 
@@ -137,6 +142,13 @@ module _ {C : Type 0} (op : Ops C) where
         o = two ((D .a · D .c - D .e) · T .K0 - D .b · D .c · T .K1);
       }
 
+  -- (1 − s1²)·a′
+  abbrev pub double-a : Quadratic C → Line C → C
+  double-a D s = neg (two (D .a + s .s0 · s .s1))
+
+  -- (1 − s1²)·b′
+  abbrev pub double-b : Quadratic C → Second C → Line C → C
+  double-b D T s = T .g - two (D .c) · s .s1 - s .s0 · s .s0
+
   abbrev pub double-by : Quadratic C → Second C → Line C → (i : C) → Quadratic C
-  double-by D T s i =
-      remaining D s (neg (two (D .a + s .s0 · s .s1)) · i) ((T .g - two (D .c) · s .s1 - s .s0 · s .s0) · i)
+  double-by D T s i = remaining D s (double-a D s · i) (double-b D T s · i)
