@@ -10,6 +10,7 @@ pub mod ClosedQuotients
 pub mod ClosedReduction
 pub mod ClosedDivisors
 pub mod ClosedStep
+pub mod ClosedValidity
 pub mod Smooth
 pub mod Approximation
 pub mod Norm

@@ -1,0 +1,93 @@
+-- The division of f − v² by u = x² + a·x + b in closed form: u divides f − v² where both coefficients m and l of the remainder
+-- are 0, and only there; and then the quotient is x⁴ − a·x³ + k·x² + h·x + j.
+use mathlib.Core.Path.{_≡_, refl, sym, _∙_, ap}
+use mathlib.Core.List.{[], _∷_}
+use Prim.Native.Nat.{ℕ, zero, suc}
+use native.Mathlib.Omega.{arith}
+use lib.ListN.{getD}
+use Rattle.algebra.specs.Ring.{Ops, Laws, sub}
+use Rattle.algebra.specs.Field.{Field}
+use Rattle.algebra.specs.Polynomials.{Polynomials, x}
+use Rattle.algebra.specs.Rows.{row}
+use Rattle.algebra.proofs.Expression.{var, syntax}
+use Rattle.algebra.proofs.Reify.{by-facts, _⋆_, terms}
+use Rattle.algebra.proofs.PolynomialRing as A
+use Rattle.algebra.proofs.Size as Z
+use Rattle.algebra.proofs.Rows as R
+use Rattle.mumford.specs.Functions.{Represents}
+use Rattle.mumford.specs.ClosedForms.{Sextic, Quadratic, Quotient, sextic, divisor, quotient}
+use Rattle.mumford.proofs.ClosedQuotients as Q
+use Rattle.mumford.proofs.ClosedQuotients.{letters}
+use Rattle.mumford.proofs.ClosedDivisors.{quadratic-from, sextic-from, coefficients, lift, lift-sextic, u-is, v-is, f-is, size-u}
+
+module _ {K : Type 0} {o : Ops K} (F : Field o) {P : Type 0} {p : Ops P} (H : Polynomials o p) (f : Sextic K) (D : Quadratic K) where
+  infixl 75 _+_ _-_
+  infixl 80 _·_
+  open Ops p using (add as _+_, mul as _·_, neg, nil, unit)
+  open Polynomials H using (size)
+  open Quotient (quotient o f D) using (k, h, j, m, l)
+
+  abbrev _-_ : P → P → P
+  _-_ = sub p
+
+  abbrev L : Laws p
+  L = A.polynomial-laws F H
+
+  abbrev u : P
+  u = divisor H D .u
+
+  abbrev v : P
+  v = divisor H D .v
+
+  -- x⁴ − a·x³ + k·x² + h·x + j
+  abbrev pub quotient-row : P
+  quotient-row = row H (j ∷ h ∷ k ∷ o .neg (D .a) ∷ o .unit ∷ [])
+
+  abbrev rest : P
+  rest = row H (l ∷ m ∷ [])
+
+  divided : sextic H f - v · v ≡ u · quotient-row + rest
+  divided =
+      let ρ = letters D (coefficients f) in
+      let q = quotient syntax (sextic-from 4) (quadratic-from 0) in
+      (λ i. f-is F H f i - v-is F H D i · v-is F H D i)
+      ∙ Q.quotient-is L (x H) (lift H D) (lift-sextic H f)
+      ∙ sym (λ i.
+      u-is F H D i
+      · R.row-eval F H ρ (q .j ∷ q .h ∷ q .k ∷ syntax .neg (var 0) ∷ syntax .unit ∷ []) i
+      + R.row-eval F H ρ (q .l ∷ q .m ∷ []) i)
+
+  rest-nil : Represents p (sextic H f) u v → rest ≡ nil
+  rest-nil (t, e) =
+      Z.divides-small F H (t - quotient-row, left (sextic H f - v · v) u quotient-row rest divided e)
+      (omega (arith, R.size-row F H (l ∷ m ∷ []), size-u F H D))
+    where
+      left : (a u q r : P) → a ≡ u · q + r → a ≡ u · t → r ≡ u · (t - q)
+      left a u q r h h′ =
+          by-facts L (a ∷ u ∷ q ∷ r ∷ t ∷ []) (neg unit ⋆ h ∷ unit ⋆ h′ ∷ []) (search terms depth 60 fits 100000) refl
+
+  pub quotient-unique : (t : P) → sextic H f - v · v ≡ u · t → t ≡ quotient-row
+  quotient-unique t e =
+      Z.regular F H u (Z.some-size F H u (omega (arith, size-u F H D))) t quotient-row
+      (same (sextic H f - v · v) u quotient-row rest divided e (rest-nil (t, e)))
+    where
+      same : (a u q r : P) → a ≡ u · q + r → a ≡ u · t → r ≡ nil → u · t ≡ u · q
+      same a u q r h h′ z =
+          by-facts L (a ∷ u ∷ q ∷ r ∷ t ∷ []) (unit ⋆ h ∷ neg unit ⋆ h′ ∷ unit ⋆ z ∷ []) (search terms depth 60 fits 100000) refl
+
+  pub represents-only : Represents p (sextic H f) u v → (m ≡ o .nil) × (l ≡ o .nil)
+  represents-only h = (at 1, at 0)
+    where
+      at : (n : ℕ) → getD (l ∷ m ∷ []) n (o .nil) ≡ o .nil
+      at n = sym (R.row-at F H (l ∷ m ∷ []) n) ∙ ap (λ r. H .coefficient r n) (rest-nil h) ∙ A.nil-at F H n
+
+  pub represents-by : m ≡ o .nil → l ≡ o .nil → Represents p (sextic H f) u v
+  represents-by em el = (quotient-row, divided ∙ ap (λ r. u · quotient-row + r) none ∙ L .add-nil (u · quotient-row))
+    where
+      at : (n : ℕ) → getD (o .nil ∷ o .nil ∷ []) n (o .nil) ≡ o .nil
+      at zero = refl
+      at (suc zero) = refl
+      at (suc (suc n)) = refl
+
+      none : rest ≡ nil
+      none = (λ i. row H (el i ∷ em i ∷ [])) ∙ sym (R.row-same F H nil (o .nil ∷ o .nil ∷ []) λ n. A.nil-at F H n ∙ sym (at n))
