@@ -6,6 +6,7 @@ use Prim.Native.Nat.{ℕ, suc, _≤_}
 use Rattle.algebra.specs.Ring.{Ops}
 use Rattle.algebra.specs.Field.{Field}
 use Rattle.algebra.specs.Polynomials.{Polynomials, constant, x, Monic}
+use Rattle.algebra.specs.Rows.{horner, row}
 use Rattle.algebra.proofs.Expression.{Expr, var, syntax}
 use Rattle.algebra.proofs.Rows as R
 use Rattle.mumford.specs.ClosedForms.{Sextic, Quadratic, sextic, divisor}
@@ -47,8 +48,12 @@ module _ {K : Type 0} {o : Ops K} (F : Field o) {P : Type 0} {p : Ops P} (H : Po
   pub u-is : (D : Quadratic K) → divisor H D .u ≡ u-at p (x H) (lift H D)
   u-is D = R.row-eval F H (D .a ∷ D .b ∷ []) (var 1 ∷ var 0 ∷ syntax .unit ∷ [])
 
+  -- c·x + e
+  pub line-is : (c e : K) → row H (e ∷ c ∷ []) ≡ horner p (x H) (constant H e ∷ constant H c ∷ [])
+  line-is c e = R.row-eval F H (e ∷ c ∷ []) (var 0 ∷ var 1 ∷ [])
+
   pub v-is : (D : Quadratic K) → divisor H D .v ≡ v-at p (x H) (lift H D)
-  v-is D = R.row-eval F H (D .c ∷ D .e ∷ []) (var 1 ∷ var 0 ∷ [])
+  v-is D = line-is (D .c) (D .e)
 
   pub f-is : (f : Sextic K) → sextic H f ≡ f-at p (x H) (lift-sextic H f)
   unfolding sextic

@@ -53,6 +53,11 @@ module _ {P : Type 0} {p : Ops P} (L : Laws p) where
     )
 
   module _ (x : P) where
+    -- fractions with one denominator
+    pub fractions-line : {s1 s0 r n1 n0 : P} → s1 · r ≡ n1 → s0 · r ≡ n0 → horner p x (s0 ∷ s1 ∷ []) · r ≡ horner p x (n0 ∷ n1 ∷ [])
+    fractions-line {s1} {s0} {r} {n1} {n0} h1 h0 =
+        by-facts L (x ∷ s1 ∷ s0 ∷ r ∷ n1 ∷ n0 ∷ []) (x ⋆ h1 ∷ unit ⋆ h0 ∷ []) (search terms depth 60 fits 100000) refl
+
     -- The sum: (z1·x + z2)·u2 is r modulo u1, and (z1·x + z2)·(v1 − v2) is p·x + o.
     module _ (D E : Quadratic P) where
       abbrev z1 : P

@@ -7,7 +7,7 @@ use native.Mathlib.Omega.{arith}
 use lib.ListN.{getD}
 use Rattle.algebra.specs.Ring.{Ops, Laws, sub}
 use Rattle.algebra.specs.Field.{Field}
-use Rattle.algebra.specs.Polynomials.{Polynomials, x}
+use Rattle.algebra.specs.Polynomials.{Polynomials, constant, x}
 use Rattle.algebra.specs.Rows.{row}
 use Rattle.algebra.proofs.Expression.{var, syntax}
 use Rattle.algebra.proofs.Reify.{by-facts, _⋆_, terms}
@@ -17,7 +17,7 @@ use Rattle.algebra.proofs.Rows as R
 use Rattle.mumford.specs.Functions.{Represents}
 use Rattle.mumford.specs.ClosedForms.{Sextic, Quadratic, Quotient, sextic, divisor, quotient}
 use Rattle.mumford.proofs.ClosedQuotients as Q
-use Rattle.mumford.proofs.ClosedQuotients.{letters}
+use Rattle.mumford.proofs.ClosedQuotients.{Q-at, letters}
 use Rattle.mumford.proofs.ClosedDivisors.{quadratic-from, sextic-from, coefficients, lift, lift-sextic, u-is, v-is, f-is, size-u}
 
 module _ {K : Type 0} {o : Ops K} (F : Field o) {P : Type 0} {p : Ops P} (H : Polynomials o p) (f : Sextic K) (D : Quadratic K) where
@@ -46,16 +46,17 @@ module _ {K : Type 0} {o : Ops K} (F : Field o) {P : Type 0} {p : Ops P} (H : Po
   abbrev rest : P
   rest = row H (l ∷ m ∷ [])
 
+  pub quotient-row-is : quotient-row ≡ Q-at p (x H) (constant H (D .a)) (quotient p (lift-sextic H f) (lift H D))
+  quotient-row-is =
+      let q = quotient syntax (sextic-from 4) (quadratic-from 0) in
+      R.row-eval F H (letters D (coefficients f)) (q .j ∷ q .h ∷ q .k ∷ syntax .neg (var 0) ∷ syntax .unit ∷ [])
+
   divided : sextic H f - v · v ≡ u · quotient-row + rest
   divided =
-      let ρ = letters D (coefficients f) in
       let q = quotient syntax (sextic-from 4) (quadratic-from 0) in
       (λ i. f-is F H f i - v-is F H D i · v-is F H D i)
       ∙ Q.quotient-is L (x H) (lift H D) (lift-sextic H f)
-      ∙ sym (λ i.
-      u-is F H D i
-      · R.row-eval F H ρ (q .j ∷ q .h ∷ q .k ∷ syntax .neg (var 0) ∷ syntax .unit ∷ []) i
-      + R.row-eval F H ρ (q .l ∷ q .m ∷ []) i)
+      ∙ sym (λ i. u-is F H D i · quotient-row-is i + R.row-eval F H (letters D (coefficients f)) (q .l ∷ q .m ∷ []) i)
 
   rest-nil : Represents p (sextic H f) u v → rest ≡ nil
   rest-nil (t, e) =

@@ -11,6 +11,7 @@ pub mod ClosedReduction
 pub mod ClosedDivisors
 pub mod ClosedStep
 pub mod ClosedValidity
+pub mod ClosedForms
 pub mod Smooth
 pub mod Approximation
 pub mod Norm
