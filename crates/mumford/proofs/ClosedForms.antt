@@ -20,9 +20,9 @@ use Rattle.algebra.proofs.Constants as N
 use Rattle.mumford.specs.Divisors.{Divisor, Valid, degree}
 use Rattle.mumford.specs.Composition.{Shared, Quotients, Composite}
 use Rattle.mumford.specs.Addition.{Composed, Sum}
-use Rattle.mumford.specs.ClosedForms.{Sextic, Quadratic, Fractions, Quotient, Second, sextic, divisor, norm, line, sum-a, sum-b, sum-fractions, sum-by, quotient, second, double-a, double-b, double-fractions, double-by}
+use Rattle.mumford.specs.ClosedForms.{Sextic, Quadratic, Fractions, Line, Quotient, Second, sextic, divisor, line, line-by, norm, sum-a, sum-b, sum-fractions, sum-by, quotient, second, double-a, double-b, double-fractions, double-by}
 use Rattle.mumford.proofs.Coprime as C
-use Rattle.mumford.proofs.Composed as G
+use Rattle.mumford.proofs.ClosedComposite as G
 use Rattle.mumford.proofs.Degrees.{degree-unit}
 use Rattle.mumford.proofs.ClosedQuotients as Q
 use Rattle.mumford.proofs.ClosedQuotients.{u-at, v-at, letters}
@@ -80,49 +80,14 @@ module _ {K : Type 0} {o : Ops K} (F : Field o) {P : Type 0} {p : Ops P} (H : Po
   abbrev L : Laws p
   L = A.polynomial-laws F H
 
-  -- the polynomials of which 1 is a combination have the greatest common divisor 1
-  shared-unit : (f : P) {u1 v1 u2 v2 : P} (e1 e2 e3 : P) → e1 · u1 + e2 · u2 + e3 · (v1 + v2) ≡ unit → Shared p f u1 v1 u2 v2 unit
-  shared-unit f {u1} {v1} {u2} {v2} e1 e2 e3 h =
-      record {
-        divides = ((u1, one-times u1), ((u2, one-times u2), ((v1 + v2, one-times (v1 + v2)), tt)));
-        factor = λ k. getD (e1 ∷ e2 ∷ e3 ∷ []) k nil;
-        combines =
-            by-facts L (u1 ∷ v1 ∷ u2 ∷ v2 ∷ e1 ∷ e2 ∷ e3 ∷ []) (neg unit ⋆ h ∷ []) (search terms depth 60 fits 100000) refl;
-      }
-    where
-      one-times : (a : P) → a ≡ unit · a
-      one-times a = sym (Y.unit-mul p L a)
+  -- s = p/r satisfies s·r = p
+  fraction : (n r r⁻¹ : K) → o .mul r r⁻¹ ≡ o .unit → o .mul (o .mul n r⁻¹) r ≡ n
+  fraction n r r⁻¹ h = by-facts (F .laws) (n ∷ r ∷ r⁻¹ ∷ []) (n ⋆ h ∷ []) (search terms depth 60 fits 100000) refl
 
-  module _ (f : Sextic K) (D E : Quadratic K) (hD : Valid H (sextic H f) (divisor H D)) (hE : Valid H (sextic H f) (divisor H E)) where
-    abbrev u1 : P
-    u1 = divisor H D .u
-
-    abbrev v1 : P
-    v1 = divisor H D .v
-
-    abbrev u2 : P
-    u2 = divisor H E .u
-
-    abbrev v2 : P
-    v2 = divisor H E .v
-
-    -- where d = 1, the three congruences make [u1·u2; v2 + s·u2; −1] the composite
-    composed-by : (g : Shared p (sextic H f) u1 v1 u2 v2 unit) (s1 s0 : K)
-        → Composite p (sextic H f) u1 v1 u2 v2
-        (G.quotients F H hD hE (M.monic-unit F H) g) (composite H D E s1 s0 .v)
-        → Composed H (sextic H f) (divisor H D) (divisor H E) (composite H D E s1 s0)
-    composed-by g s1 s0 c =
-        G.composite-composed F H hD hE (M.monic-unit F H) g
-        (once (u1 · u2)) c
-        (omega (arith, T.size-composite-u F H D E s1 s0, T.size-composite-v F H D E s1 s0))
-        (ap (λ n. pos 0 +ℤ pos 0 +ℤ pos n -ℤ pos 1) (sym (degree-unit F H)))
-      where
-        once : (a : P) → a ≡ unit · unit · a
-        once a = by-ring L (a ∷ []) (search terms depth 60 fits 100000) refl
-
-  -- The sum.
-  module _ (f : Sextic K) (D E : Quadratic K) (s1 s0 r⁻¹ : K) where
+  -- The sum: u1 and u2 are coprime, and s is (v1 − v2)/u2 modulo u1.
+  module _ (D E : Quadratic K) (r⁻¹ : K) (inverse : o .mul (sum-fractions o D E .r) r⁻¹ ≡ o .unit) where
     open Fractions (sum-fractions o D E) using (r, p as n1, o as n0)
+    open Line (line-by o E (sum-fractions o D E) r⁻¹) using (s1, s0)
 
     abbrev ρ : List K
     ρ = letters D (letters E (s1 ∷ s0 ∷ r⁻¹ ∷ []))
@@ -130,22 +95,33 @@ module _ {K : Type 0} {o : Ops K} (F : Field o) {P : Type 0} {p : Ops P} (H : Po
     abbrev fractions : Fractions Expr
     fractions = sum-fractions syntax (quadratic-from 0) (quadratic-from 4)
 
-    module _ (inverse : o .mul r r⁻¹ ≡ o .unit) where
-      inverse-constant : sum-fractions p (lift H D) (lift H E) .r · constant H r⁻¹ ≡ unit
-      inverse-constant = N.constant-equation F H ρ (times (fractions .r) (var 10)) one inverse
+    inverse-constant : sum-fractions p (lift H D) (lift H E) .r · constant H r⁻¹ ≡ unit
+    inverse-constant = N.constant-equation F H ρ (times (fractions .r) (var 10)) one inverse
 
-      coprime-sum : Coprime p (divisor H D .u) (divisor H E .u)
-      coprime-sum =
-          subst₂ (Coprime p) (sym (u-is F H D)) (sym (u-is F H E))
-          (Q.coprime-by L (Q.sum-resultant L (x H) (lift H D) (lift H E)) inverse-constant)
+    sum-coprime : Coprime p (divisor H D .u) (divisor H E .u)
+    sum-coprime =
+        subst₂ (Coprime p) (sym (u-is F H D)) (sym (u-is F H E))
+        (Q.coprime-by L (Q.sum-resultant L (x H) (lift H D) (lift H E)) inverse-constant)
 
-      line-sum : o .mul s1 r ≡ n1 → o .mul s0 r ≡ n0
-          → Congruent p (divisor H D .u) (row H (s0 ∷ s1 ∷ []) · divisor H E .u) (divisor H D .v - divisor H E .v)
-      line-sum h1 h0 =
-          subst₃ (Congruent p) (sym (u-is F H D)) (sym (λ i. line-is F H s1 s0 i · u-is F H E i))
-          (sym (λ i. v-is F H D i - v-is F H E i))
-          (Q.quotient-modulo L (Q.sum-resultant L (x H) (lift H D) (lift H E)) inverse-constant
-          (Q.sum-numerator L (x H) (lift H D) (lift H E))
-          (Q.fractions-line L (x H)
-          (N.constant-equation F H ρ (times (var 8) (fractions .r)) (fractions .p) h1)
-          (N.constant-equation F H ρ (times (var 9) (fractions .r)) (fractions .o) h0)))
+    sum-line : Congruent p (divisor H D .u) (row H (s0 ∷ s1 ∷ []) · divisor H E .u) (divisor H D .v - divisor H E .v)
+    sum-line =
+        subst₃ (Congruent p) (sym (u-is F H D)) (sym (λ i. line-is F H s1 s0 i · u-is F H E i))
+        (sym (λ i. v-is F H D i - v-is F H E i))
+        (Q.quotient-modulo L (Q.sum-resultant L (x H) (lift H D) (lift H E)) inverse-constant
+        (Q.sum-numerator L (x H) (lift H D) (lift H E))
+        (Q.fractions-line L (x H)
+        (N.constant-equation F H ρ (times (var 8) (fractions .r)) (fractions .p) (fraction n1 r r⁻¹ inverse))
+        (N.constant-equation F H ρ (times (var 9) (fractions .r)) (fractions .o) (fraction n0 r r⁻¹ inverse))))
+
+  pub closed-sum : {V : P} (f : Sextic K) (D E : Quadratic K) (r⁻¹ i : K)
+      → (let n = sum-fractions o D E in
+      o .mul (n .r) r⁻¹ ≡ o .unit → o .mul (norm o (o .mul (n .p) r⁻¹)) i ≡ o .unit
+      → Valid H (sextic H f) (divisor H D) → Valid H (sextic H f) (divisor H E)
+      → Sum H (sextic H f) V (divisor H D) (divisor H E) (divisor H (sum-by o f D E (line-by o E n r⁻¹) i)))
+  closed-sum f D E r⁻¹ i inverse inverse′ hD hE =
+      let n = sum-fractions o D E in
+      let s1 = o .mul (n .p) r⁻¹ in
+      let s0 = o .mul (n .o) r⁻¹ in
+      T.closed-step F H D E s1 s0 f (sum-by o f D E (line o E s1 s0) i) (sum-reducing (F .laws) f D s1 s0 i inverse′ E) hD hE
+      (G.sum-composed F H hD hE (row H (s0 ∷ s1 ∷ [])) (T.composite-smaller F H D E s1 s0)
+      (sum-coprime D E r⁻¹ inverse) (sum-line D E r⁻¹ inverse))

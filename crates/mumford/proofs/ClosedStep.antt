@@ -2,9 +2,9 @@
 -- meet the equations of the formulas are those of the sum, and n′ is 0.
 use mathlib.Core.Path.{_≡_, refl, sym, _∙_, ap, ap₂}
 use mathlib.Core.List.{List, [], _∷_}
-use Prim.Native.Nat.{pred, _≤_}
+use Prim.Native.Nat.{pred, _≤_, _<_}
 use native.Mathlib.Omega.{arith}
-use lib.IntN.{pos, negsuc, _-ℤ_}
+use lib.IntN.{pos, _-ℤ_}
 use Rattle.std.proofs.shelf.Signed.{ints}
 use Rattle.algebra.specs.Ring.{Ops, Laws, sub}
 use Rattle.algebra.specs.Field.{Field}
@@ -25,17 +25,12 @@ use Rattle.mumford.proofs.Composed as C
 use Rattle.mumford.proofs.ClosedQuotients.{u-at, v-at, letters}
 use Rattle.mumford.proofs.ClosedReduction as T
 use Rattle.mumford.proofs.ClosedReduction.{Reducing, below-4}
+use Rattle.mumford.proofs.ClosedComposite.{combined}
 use Rattle.mumford.proofs.ClosedDivisors.{quadratic-from, sextic-from, coefficients, lift, lift-sextic, line-is, u-is, v-is, f-is, size-u, monic-u, size-v}
 
-module _ {K : Type 0} {o : Ops K} {P : Type 0} {p : Ops P} (H : Polynomials o p) where
-  -- [u1·u2; v2 + s·u2; −1]
-  abbrev pub composite : (D E : Quadratic K) (s1 s0 : K) → Divisor P
-  composite D E s1 s0 =
-      record {
-        u = p .mul (divisor H D .u) (divisor H E .u);
-        v = p .add (divisor H E .v) (p .mul (row H (s0 ∷ s1 ∷ [])) (divisor H E .u));
-        n = negsuc 0;
-      }
+-- [u1·u2; v2 + s·u2; −1]
+abbrev pub composite : {K : Type 0} {o : Ops K} {P : Type 0} {p : Ops P} → Polynomials o p → (D E : Quadratic K) (s1 s0 : K) → Divisor P
+composite {p = p} H D E s1 s0 = combined p (divisor H D) (divisor H E) (row H (s0 ∷ s1 ∷ []))
 
 module _ {K : Type 0} {o : Ops K} (F : Field o) {P : Type 0} {p : Ops P} (H : Polynomials o p) (D E : Quadratic K) (s1 s0 : K) where
   infixl 75 _+_ _-_
@@ -50,14 +45,17 @@ module _ {K : Type 0} {o : Ops K} (F : Field o) {P : Type 0} {p : Ops P} (H : Po
   abbrev L : Laws p
   L = A.polynomial-laws F H
 
-  pub size-composite-u : size u12 ≡ 5
+  size-composite-u : size u12 ≡ 5
   size-composite-u = Z.size-mul F H (divisor H D .u) (divisor H E .u) (size-u F H D) (size-u F H E)
 
-  pub size-composite-v : size w ≤ 4
+  size-composite-v : size w ≤ 4
   size-composite-v =
       Z.size-add F H (divisor H E .v) (row H (s0 ∷ s1 ∷ []) · divisor H E .u) (omega (arith, size-v F H E))
       (Z.size-mul-most F H {m = 1} {n = 3} (row H (s0 ∷ s1 ∷ [])) (divisor H E .u) (R.size-row F H (s0 ∷ s1 ∷ []))
       (omega (arith, size-u F H E)))
+
+  pub composite-smaller : size w < size u12
+  composite-smaller = omega (arith, size-composite-u, size-composite-v)
 
   w-is : w ≡ v-at p (x H) (lift H E) + horner p (x H) (constant H s0 ∷ constant H s1 ∷ []) · u-at p (x H) (lift H E)
   w-is = λ i. v-is F H E i + line-is F H s1 s0 i · u-is F H E i

@@ -9,6 +9,7 @@ pub mod Coprime
 pub mod ClosedQuotients
 pub mod ClosedReduction
 pub mod ClosedDivisors
+pub mod ClosedComposite
 pub mod ClosedStep
 pub mod ClosedValidity
 pub mod ClosedForms

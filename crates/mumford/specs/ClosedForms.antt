@@ -72,6 +72,10 @@ module _ {C : Type 0} (op : Ops C) where
   abbrev pub line : Quadratic C → (s1 s0 : C) → Line C
   line E s1 s0 = record { s1 = s1; s0 = s0; L2 = s0 + s1 · E .a; L1 = s0 · E .a + s1 · E .b }
 
+  -- s1 = p/r and s0 = o/r, where the inverse of r is given
+  abbrev pub line-by : Quadratic C → Fractions C → (r⁻¹ : C) → Line C
+  line-by E n r⁻¹ = line E (n .p · r⁻¹) (n .o · r⁻¹)
+
   -- 1 − s1², the leading coefficient of f − w² for w = v2 + s·u2
   abbrev pub norm : C → C
   norm s1 = unit - s1 · s1
