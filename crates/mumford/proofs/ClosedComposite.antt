@@ -67,13 +67,15 @@ module _ {K : Type 0} {o : Ops K} (F : Field o) {P : Type 0} {p : Ops P} (H : Po
 
     pub sum-composed : Coprime p u1 u2 → Congruent p u1 (s · u2) (v1 - v2) → Composed H f D E (combined p D E s)
     sum-composed (e1, e2, bezout) (t, e) =
-        let g = shared-unit f e1 e2 nil
-        (by-facts L (u1 ∷ v1 ∷ u2 ∷ v2 ∷ e1 ∷ e2 ∷ []) (unit ⋆ bezout ∷ []) (search terms depth 60 fits 100000) refl)
-        in
         by-congruences g
         (C.sum-composite L (G.quotients F H hD hE (M.monic-unit F H) g) refl e1 e2 bezout (v2 + s · u2)
         (t, by-facts L (u1 ∷ v1 ∷ u2 ∷ v2 ∷ s ∷ t ∷ []) (unit ⋆ e ∷ []) (search terms depth 60 fits 100000) refl)
         (s, by-ring L (u2 ∷ v2 ∷ s ∷ []) (search terms depth 60 fits 100000) refl))
+      where
+        g : Shared p f u1 v1 u2 v2 unit
+        g =
+            shared-unit f e1 e2 nil
+            (by-facts L (u1 ∷ v1 ∷ u2 ∷ v2 ∷ e1 ∷ e2 ∷ []) (unit ⋆ bezout ∷ []) (search terms depth 60 fits 100000) refl)
 
   pub double-composed : {f : P} {D : Divisor P} (h : Valid H f D) (s : P)
       → size (combined p D D s .v) < size (combined p D D s .u)

@@ -52,6 +52,10 @@ module _ {P : Type 0} {p : Ops P} (L : Laws p) where
           (search terms depth 60 fits 100000) refl,
     )
 
+  -- n/r, times r
+  pub fraction : (n r r⁻¹ : P) → r · r⁻¹ ≡ unit → n · r⁻¹ · r ≡ n
+  fraction n r r⁻¹ h = by-facts L (n ∷ r ∷ r⁻¹ ∷ []) (n ⋆ h ∷ []) (search terms depth 60 fits 100000) refl
+
   module _ (x : P) where
     -- fractions with one denominator
     pub fractions-line : {s1 s0 r n1 n0 : P} → s1 · r ≡ n1 → s0 · r ≡ n0 → horner p x (s0 ∷ s1 ∷ []) · r ≡ horner p x (n0 ∷ n1 ∷ [])

@@ -67,14 +67,12 @@ module _ {K : Type 0} {o : Ops K} (F : Field o) {P : Type 0} {p : Ops P} (H : Po
       left a u q r h h′ =
           by-facts L (a ∷ u ∷ q ∷ r ∷ t ∷ []) (neg unit ⋆ h ∷ unit ⋆ h′ ∷ []) (search terms depth 60 fits 100000) refl
 
-  pub quotient-unique : (t : P) → sextic H f - v · v ≡ u · t → t ≡ quotient-row
-  quotient-unique t e =
-      Z.regular F H u (Z.some-size F H u (omega (arith, size-u F H D))) t quotient-row
-      (same (sextic H f - v · v) u quotient-row rest divided e (rest-nil (t, e)))
-    where
-      same : (a u q r : P) → a ≡ u · q + r → a ≡ u · t → r ≡ nil → u · t ≡ u · q
-      same a u q r h h′ z =
-          by-facts L (a ∷ u ∷ q ∷ r ∷ t ∷ []) (unit ⋆ h ∷ neg unit ⋆ h′ ∷ unit ⋆ z ∷ []) (search terms depth 60 fits 100000) refl
+  -- where nothing is left
+  exact : rest ≡ nil → sextic H f - v · v ≡ u · quotient-row
+  exact e = divided ∙ ap (λ r. u · quotient-row + r) e ∙ L .add-nil (u · quotient-row)
+
+  pub quotient-exact : Represents p (sextic H f) u v → sextic H f - v · v ≡ u · quotient-row
+  quotient-exact h = exact (rest-nil h)
 
   pub represents-only : Represents p (sextic H f) u v → (m ≡ o .nil) × (l ≡ o .nil)
   represents-only h = (at 1, at 0)
@@ -83,7 +81,7 @@ module _ {K : Type 0} {o : Ops K} (F : Field o) {P : Type 0} {p : Ops P} (H : Po
       at n = sym (R.row-at F H (l ∷ m ∷ []) n) ∙ ap (λ r. H .coefficient r n) (rest-nil h) ∙ A.nil-at F H n
 
   pub represents-by : m ≡ o .nil → l ≡ o .nil → Represents p (sextic H f) u v
-  represents-by em el = (quotient-row, divided ∙ ap (λ r. u · quotient-row + r) none ∙ L .add-nil (u · quotient-row))
+  represents-by em el = (quotient-row, exact none)
     where
       at : (n : ℕ) → getD (o .nil ∷ o .nil ∷ []) n (o .nil) ≡ o .nil
       at zero = refl

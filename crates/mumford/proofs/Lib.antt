@@ -12,7 +12,8 @@ pub mod ClosedDivisors
 pub mod ClosedComposite
 pub mod ClosedStep
 pub mod ClosedValidity
-pub mod ClosedForms
+pub mod ClosedSums
+pub mod ClosedDoubles
 pub mod Smooth
 pub mod Approximation
 pub mod Norm
