@@ -18,4 +18,5 @@ pub mod Squarefree
 pub mod Division
 pub mod Greatest
 pub mod CommonDivisor
+pub mod Quadratic
 mod Examples

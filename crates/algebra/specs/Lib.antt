@@ -5,3 +5,4 @@ pub mod Divisibility
 pub mod CommonDivisor
 pub mod Polynomials
 pub mod Division
+pub mod Quadratic

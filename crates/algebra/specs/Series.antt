@@ -24,6 +24,7 @@ module _ {K : Type 0} (o : Ops K) where
   x zero = o .nil
   x (suc k) = constant (o .unit) k
 
+  -- the derivative: (k + 1)·p(k + 1) at k
   abbrev pub derivative : (ℕ → K) → ℕ → K
   derivative p k = o .mul (numeral o (suc k)) (p (suc k))
 

@@ -56,10 +56,10 @@ module _ (K : Arithmetic) (L : Lawful K) where
         mul-add = λ a b c. code-path (L .distributive (a .0) (b .0) (c .0) (a .1) (b .1) (c .1));
       }
 
-  same? : (a b : Code (K .size)) → Dec (a ≡ b)
+  pub same? : (a b : Code (K .size)) → Dec (a ≡ b)
   same? a b = elim (ℕ-discrete (a .0) (b .0)) [ yes e ↦ yes (code-path e) | no n ↦ no (λ e. n (ap (λ (c : Code (K .size)). c .0) e)) ]
 
-  pub field : Field codes
+  unfoldable pub field : Field codes
   unfolding codes
   field =
       record {

@@ -1,1 +1,11 @@
 pub mod Codes
+pub mod ResidueRing
+pub mod Inverses
+pub mod Represented
+pub mod Among
+pub mod LawfulResidues
+pub mod Filling
+pub mod Below
+pub mod LawfulNine
+pub mod Squares
+pub mod LawfulPairs

@@ -18,30 +18,9 @@ use Rattle.fields.specs.Lawful.{Lawful}
 use Rattle.fields.proofs.Codes.{codes, field}
 use Rattle.polynomials.specs.Polynomial.{product, quotient, remainder}
 use Rattle.polynomials.specs.Proper.{Listed}
-use Rattle.polynomials.proofs.Listed.{listed-path, polynomials, nil-list}
+use Rattle.polynomials.proofs.Listed.{list-path, listed-path, polynomials, nil-list}
 use Rattle.polynomials.proofs.Presentation.{presentation, list-laws}
 use Rattle.polynomials.proofs.Remainders.{quotient-of, remainder-of, division, remainder-less}
-
-module _ {C : Type 0} {o : Ops C} (T : Laws o) where
-  infixl 75 _+_ _-_
-  infixl 80 _·_
-  open Ops o using (add as _+_, mul as _·_, neg, nil, unit)
-
-  abbrev _-_ : C → C → C
-  _-_ = sub o
-
-  rest-is : (a d q r : C) → a ≡ q · d + r → a - r ≡ d · q
-  rest-is a d q r e = by-facts T (a ∷ d ∷ q ∷ r ∷ []) (unit ⋆ e ∷ []) (search terms depth 60 fits 100000) refl
-
-  less-nothing : (a : C) → a - nil ≡ a
-  less-nothing a = by-ring T (a ∷ []) (search terms depth 60 fits 100000) refl
-
-  with-rest : (d q : C) → d · q ≡ q · d + nil
-  with-rest d q = by-ring T (d ∷ q ∷ []) (search terms depth 60 fits 100000) refl
-
-  -- the quotient of b grows by t
-  grown : (a b d t q r : C) → a - b ≡ d · t → b ≡ q · d + r → a ≡ (t + q) · d + r
-  grown a b d t q r e h = by-facts T (a ∷ b ∷ d ∷ t ∷ q ∷ r ∷ []) (unit ⋆ e ∷ unit ⋆ h ∷ []) (search terms depth 60 fits 100000) refl
 
 module _ (K : Arithmetic) (L : Lawful K) where
   abbrev P : Ops (Listed K)
@@ -70,32 +49,44 @@ module _ (K : Arithmetic) (L : Lawful K) where
   -- d goes t times into d·t
   pub quotient-is : (a d t : Listed K) → 0 < length (d .0) → a ≡ P .mul d t → quotient-of K L a d ≡ t
   quotient-is a d t some e =
-      division-known a d
-      (record { quotient = t; remainder = P .nil; is = e ∙ with-rest T d t; smaller = omega (arith, ap length (nil-list K L)) }) .0
+      division-known a d (record { quotient = t; remainder = P .nil; is = whole; smaller = omega (arith, ap length (nil-list K L)) }) .0
+    where
+      whole : a ≡ P .add (P .mul t d) (P .nil)
+      whole = by-facts T (a ∷ d ∷ t ∷ []) (P .unit ⋆ e ∷ []) (search terms depth 60 fits 100000) refl
 
   pub quotient-product : (d t : Listed K) → 0 < length (d .0) → quotient K (product K (d .0) (t .0)) (d .0) ≡ t .0
   unfolding polynomials
-  quotient-product d t some = ap (λ (p : Listed K). p .0) (quotient-is (P .mul d t) d t some refl)
+  quotient-product d t some = list-path (quotient-is (P .mul d t) d t some refl)
 
   -- Congruence is equality of the remainders.
 
   pub remainder-congruent : (a d : Listed K) → Congruent P d a (remainder-of K L a d)
   remainder-congruent a d =
-      (quotient-of K L a d, rest-is T a d (quotient-of K L a d) (remainder-of K L a d) (division K L a d))
+      let q : Listed K = quotient-of K L a d in
+      let r : Listed K = remainder-of K L a d in
+      (q, by-facts T (a ∷ d ∷ q ∷ r ∷ []) (P .unit ⋆ division K L a d ∷ []) (search terms depth 60 fits 100000) refl)
 
   pub congruent-remainder : (a b d : Listed K) → Congruent P d a b → remainder K (a .0) (d .0) ≡ remainder K (b .0) (d .0)
   congruent-remainder a b d (t, e) =
       elim (decLt 0 (length (d .0))) [
-        | yes some ↦ ap (λ (p : Listed K). p .0) (proper some)
+        | yes some ↦ list-path (modulo some)
         | no none ↦ ap (λ (p : Listed K). remainder K (p .0) (d .0)) (equal (omega arith))
       ]
     where
-      proper : 0 < length (d .0) → remainder-of K L a d ≡ remainder-of K L b d
-      proper some =
-          let q : Listed K = quotient-of K L b d in
-          let r : Listed K = remainder-of K L b d in
-          division-known a d
-          (record { quotient = P .add t q; remainder = r; is = grown T a b d t q r e (division K L b d); smaller = remainder-less K L b d some }) .1
+      q : Listed K
+      q = quotient-of K L b d
+
+      r : Listed K
+      r = remainder-of K L b d
+
+      whole : a ≡ P .add (P .mul (P .add t q) d) r
+      whole =
+          by-facts T (a ∷ b ∷ d ∷ t ∷ q ∷ r ∷ []) (P .unit ⋆ e ∷ P .unit ⋆ division K L b d ∷ [])
+          (search terms depth 60 fits 100000) refl
+
+      modulo : 0 < length (d .0) → remainder-of K L a d ≡ r
+      modulo some =
+          division-known a d (record { quotient = P .add t q; remainder = r; is = whole; smaller = remainder-less K L b d some }) .1
 
       equal : length (d .0) ≡ 0 → a ≡ b
       equal z =
@@ -104,22 +95,28 @@ module _ (K : Arithmetic) (L : Lawful K) where
 
   -- Divisibility is a remainder 0.
 
+  less-nothing : (a : Listed K) → sub P a (P .nil) ≡ a
+  less-nothing a = by-ring T (a ∷ []) (search terms depth 60 fits 100000) refl
+
   pub divides-remainder : (a d : Listed K) → Divides P d a → remainder K (a .0) (d .0) ≡ []
   unfolding polynomials remainder
-  divides-remainder a d (t, e) = congruent-remainder a (P .nil) d (t, less-nothing T a ∙ e)
+  divides-remainder a d (t, e) = congruent-remainder a (P .nil) d (t, less-nothing a ∙ e)
 
   remainder-none : (a d : Listed K) → remainder K (a .0) (d .0) ≡ [] → a ≡ P .mul d (quotient-of K L a d)
   remainder-none a d z =
+      let q : Listed K = quotient-of K L a d in
       let r : Listed K = remainder-of K L a d in
       let none : r ≡ P .nil = listed-path (z ∙ sym (nil-list K L)) in
-      sym (less-nothing T a) ∙ ap (sub P a) (sym none) ∙ rest-is T a d (quotient-of K L a d) r (division K L a d)
+      by-facts T (a ∷ d ∷ q ∷ r ∷ []) (P .unit ⋆ division K L a d ∷ P .unit ⋆ none ∷ []) (search terms depth 60 fits 100000) refl
 
   pub remainder-divides : (a d : Listed K) → remainder K (a .0) (d .0) ≡ [] → Divides P d a
   remainder-divides a d z = (quotient-of K L a d, remainder-none a d z)
+
+  -- where d divides a, the quotient is exact
 
   pub divides-quotient : (a d : Listed K) → Divides P d a → a ≡ P .mul d (quotient-of K L a d)
   divides-quotient a d h = remainder-none a d (divides-remainder a d h)
 
   pub divides-product : (a d : Listed K) → Divides P d a → a .0 ≡ product K (quotient K (a .0) (d .0)) (d .0)
   unfolding polynomials
-  divides-product a d h = ap (λ (p : Listed K). p .0) (divides-quotient a d h ∙ T .mul-comm d (quotient-of K L a d))
+  divides-product a d h = list-path (divides-quotient a d h ∙ T .mul-comm d (quotient-of K L a d))

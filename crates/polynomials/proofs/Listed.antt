@@ -1,5 +1,5 @@
 -- The polynomials over a lawful field, each as its list: the operations on lists keep to them and are their ring operations.
-use mathlib.Core.Path.{_≡_, refl}
+use mathlib.Core.Path.{_≡_, refl, ap}
 use mathlib.Core.HLevel.{Σ-prop-path, Π-prop}
 use mathlib.Core.List.{[], _∷_, List·isSet}
 use Prim.Native.Nat.{ℕ, zero, suc}
@@ -10,9 +10,10 @@ use Rattle.algebra.specs.Ring.{Ops}
 use Rattle.fields.specs.Arithmetic.{Arithmetic}
 use Rattle.fields.specs.Lawful.{Lawful}
 use Rattle.fields.proofs.Codes.{zero-code, one-code}
-use Rattle.polynomials.specs.Polynomial.{Polynomial, trim, add, scale, negate, subtract, multiply, divide, weigh, derive, numeral, sum, negative, difference, product, multiple, quotient, remainder, derivative}
+use Rattle.polynomials.specs.Polynomial.{Polynomial, trim, add, scale, negate, subtract, multiply, divide, derive, sum, negative, difference, product, multiple, quotient, remainder, derivative}
 use Rattle.polynomials.specs.Proper.{Proper, Listed}
 use Rattle.polynomials.proofs.Coefficients.{Codes, trim-trim, trim-codes, add-codes, scale-codes, negate-codes, subtract-codes, multiply-codes}
+use Rattle.polynomials.proofs.Derivatives.{derive-codes}
 use Rattle.polynomials.proofs.Divisions.{quotient-codes, remainder-codes, remainder-trimmed}
 
 -- to be a polynomial is a proposition
@@ -26,6 +27,9 @@ proper-prop K p h k i =
 -- so polynomials are equal where their lists are
 pub listed-path : {K : Arithmetic} {a b : Listed K} → a .0 ≡ b .0 → a ≡ b
 listed-path {K} {a} {b} e = Σ-prop-path (proper-prop K) {u = a} {v = b} e
+
+pub list-path : {K : Arithmetic} {a b : Listed K} → a ≡ b → a .0 ≡ b .0
+list-path {K} e = ap (λ (p : Listed K). p .0) e
 
 module _ (K : Arithmetic) (L : Lawful K) where
   -- What the operations on lists answer is a polynomial.
@@ -71,18 +75,9 @@ module _ (K : Arithmetic) (L : Lawful K) where
   unfolding remainder
   remainder-proper {a} ha d = record { codes = remainder-codes K L d a (ha .codes); trimmed = remainder-trimmed K L d a }
 
-  weigh-codes : (n : ℕ) (a : Polynomial) → Codes K L (weigh K n a)
-  weigh-codes n [] k = zero-code K L
-  weigh-codes n (x ∷ a) zero = L .products .answers-code (numeral K n) x
-  weigh-codes n (x ∷ a) (suc k) = weigh-codes (suc n) a k
-
-  derive-codes : (a : Polynomial) → Codes K L (derive K a)
-  derive-codes [] k = zero-code K L
-  derive-codes (x ∷ a) k = weigh-codes 1 a k
-
   pub derivative-proper : (a : Polynomial) → Proper K (derivative K a)
   unfolding derivative
-  derivative-proper a = trim-proper (derive K a) (derive-codes a)
+  derivative-proper a = trim-proper (derive K a) (derive-codes K L a)
 
   -- The ring operations. They stay shut, so that the ring solver meets them as they are written.
   unfoldable pub polynomials : Ops (Listed K)

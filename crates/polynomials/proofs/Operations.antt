@@ -2,10 +2,7 @@
 -- and the leading coefficient of a product.
 use mathlib.Core.Path.{_≡_, refl, sym, _∙_, ap}
 use mathlib.Core.Logic.{_≢_}
-use mathlib.Core.List.{[], _∷_}
 use Prim.Native.Nat.{ℕ, zero, suc, _+_, _<_}
-use native.Mathlib.Decide.{decLt}
-use native.Mathlib.Omega.{arith}
 use lib.ListN.{length, getD}
 use Rattle.algebra.specs.Ring as ring
 use Rattle.algebra.specs.Ring.{Ops, sub}
@@ -19,11 +16,10 @@ use Rattle.algebra.proofs.Derivative as D
 use Rattle.fields.specs.Arithmetic.{Arithmetic}
 use Rattle.fields.specs.Lawful.{Lawful}
 use Rattle.fields.proofs.Codes.{Code, code-path, codes, field}
-use Rattle.polynomials.specs.Polynomial.{Polynomial, trim, leading, add, scale, negate, subtract, numeral, weigh, derive, sum, negative, difference, product, multiple, derivative}
+use Rattle.polynomials.specs.Polynomial.{Polynomial, trim, leading, add, scale, negate, subtract, numeral, derive, sum, negative, difference, product, multiple, derivative}
 use Rattle.polynomials.specs.Proper.{Listed}
-use Rattle.polynomials.proofs.Laws.{times-zero}
 use Rattle.polynomials.proofs.Coefficients.{trim-at, add-at, scale-at, negate-codes, trim-codes}
-use Rattle.polynomials.proofs.Lengths.{multiple-length}
+use Rattle.polynomials.proofs.Derivatives.{derive-at}
 use Rattle.polynomials.proofs.Listed.{difference-proper, multiple-proper, derivative-proper, polynomials}
 use Rattle.polynomials.proofs.Presentation.{coefficient, same-lists, nil-number, presentation}
 
@@ -65,21 +61,10 @@ module _ (K : Arithmetic) (L : Lawful K) where
 
   -- Derivatives.
 
-  numeral-is : (n : ℕ) → numeral K n ≡ ring.numeral (codes K L) n .0
+  pub numeral-is : (n : ℕ) → numeral K n ≡ ring.numeral (codes K L) n .0
   unfolding codes
   numeral-is zero = refl
   numeral-is (suc n) = ap (K .plus 1) (numeral-is n)
-
-  weigh-at : (n : ℕ) (p : Polynomial) (k : ℕ) → getD (weigh K n p) k 0 ≡ K .times (numeral K (n + k)) (getD p k 0)
-  weigh-at n [] k = sym (times-zero K L (numeral K (n + k)))
-  weigh-at n (a ∷ p) zero = ap (λ m. K .times (numeral K m) a) (omega arith)
-  weigh-at n (a ∷ p) (suc k) = weigh-at (suc n) p k ∙ ap (λ m. K .times (numeral K m) (getD p k 0)) (omega arith)
-
-  derive-at : (p : Polynomial) (k : ℕ) → getD (derive K p) k 0 ≡ K .times (numeral K (suc k)) (getD p (suc k) 0)
-  derive-at [] k = sym (times-zero K L (numeral K (suc k)))
-  derive-at (a ∷ p) k =
-      let e : 1 + k ≡ suc k = omega arith in
-      weigh-at 1 p k ∙ ap (λ m. K .times (numeral K m) (getD p k 0)) e
 
   abbrev pub derivative-of : Listed K → Listed K
   derivative-of a = (derivative K (a .0), derivative-proper K L (a .0))
@@ -89,7 +74,7 @@ module _ (K : Arithmetic) (L : Lawful K) where
   unfolding codes derivative
   derivative-at a k =
       code-path (trim-at (derive K (a .0)) k
-      ∙ derive-at (a .0) k
+      ∙ derive-at K L (a .0) k
       ∙ ap (λ c. K .times c (getD (a .0) (suc k) 0)) (numeral-is (suc k)))
 
   pub derivative-is : (a : Listed K) → derivative-of a ≡ theory.derivative H a
@@ -104,16 +89,8 @@ module _ (K : Arithmetic) (L : Lawful K) where
 
   pub multiple-length-is : (c : Code (K .size)) (a : Listed K) → c .0 ≢ 0 → length (multiple K (c .0) (a .0)) ≡ length (a .0)
   multiple-length-is c a some =
-      elim (decLt 0 (length (a .0))) [ yes l ↦ whole l | no l ↦ omega (arith, multiple-length K (c .0) (a .0)) ]
-    where
-      unit : c ≢ codes K L .nil
-      unit e = some (ap (λ (b : Code (K .size)). b .0) e ∙ nil-number K L)
-
-      whole : 0 < length (a .0) → length (multiple K (c .0) (a .0)) ≡ length (a .0)
-      whole l =
-          let one : length (constant H c .0) ≡ 1 = S.size-constant F H c unit in
-          let sizes = S.size-mul-some F H (constant H c) a (S.some-size F H (constant H c) (omega arith)) (S.some-size F H a l) in
-          omega (arith, ap (λ (p : Listed K). length (p .0)) (multiple-is c a), one, sizes)
+      ap (λ (p : Listed K). length (p .0)) (multiple-is c a)
+      ∙ S.size-constant-mul F H c a (λ e. some (ap (λ (b : Code (K .size)). b .0) e ∙ nil-number K L))
 
   -- the degrees of factors that are not 0 add up
   pub product-length-is : (a b : Listed K) → 0 < length (a .0) → 0 < length (b .0)

@@ -14,15 +14,12 @@ use Rattle.polynomials.specs.Proper.{Listed}
 use Rattle.polynomials.proofs.Laws.{zero-plus, times-zero}
 use Rattle.polynomials.proofs.Coefficients.{Codes, trim-at, trim-none, cons-codes, add-at, multiply-codes, multiply-cons, multiply-same}
 use Rattle.polynomials.proofs.Divisions.{times-in, left-over-at, remainder-codes, remainder-below}
-use Rattle.polynomials.proofs.Listed.{quotient-proper, remainder-proper, polynomials}
+use Rattle.polynomials.proofs.Listed.{list-path, quotient-proper, remainder-proper, polynomials}
 use Rattle.polynomials.proofs.Presentation.{same-lists, list-laws}
 
 -- y·d is taken from the remainder s and added to the multiple m
 carried : {C : Type 0} {o : Ops C} → Laws o → (y m s : C) → o .add m s ≡ o .add (o .add y m) (o .add s (o .neg y))
 carried T y m s = by-ring T (y ∷ m ∷ s ∷ []) (search terms depth 60 fits 100000) refl
-
-rest-alone : {C : Type 0} {o : Ops C} → Laws o → (a q r : C) → a ≡ o .add (o .mul q (o .nil)) r → r ≡ a
-rest-alone {o = o} T a q r e = by-facts T (a ∷ q ∷ r ∷ []) (o .neg (o .unit) ⋆ e ∷ []) (search terms depth 60 fits 100000) refl
 
 module _ (K : Arithmetic) (L : Lawful K) where
   open Arithmetic K using (size, plus, times, minus)
@@ -37,7 +34,7 @@ module _ (K : Arithmetic) (L : Lawful K) where
   shifted-sum a p m r h e zero = sym (zero-plus K L a h)
   shifted-sum a p m r h e (suc k) = e k
 
-  -- before the quotient is trimmed
+  -- the equation of division, before the quotient is trimmed
   divided-at : (d p : Polynomial) → Codes K L p → (k : ℕ)
       → getD p k 0 ≡ plus (getD (multiply K (divide K p d .quotient) d) k 0) (getD (divide K p d .remainder) k 0)
   divided-at d [] h k = sym (zero-plus K L 0 (zero-code K L))
@@ -61,6 +58,7 @@ module _ (K : Arithmetic) (L : Lawful K) where
   abbrev P : Ops (Listed K)
   P = polynomials K L
 
+  -- dividend = quotient·divisor + remainder
   pub division : (a d : Listed K) → a ≡ P .add (P .mul (quotient-of a d) d) (remainder-of a d)
   unfolding polynomials sum product quotient remainder
   division a d =
@@ -76,8 +74,9 @@ module _ (K : Arithmetic) (L : Lawful K) where
   pub division-list : (a d : Listed K)
       → a .0 ≡ sum K (product K (quotient K (a .0) (d .0)) (d .0)) (remainder K (a .0) (d .0))
   unfolding polynomials
-  division-list a d = ap (λ (p : Listed K). p .0) (division a d)
+  division-list a d = list-path (division a d)
 
+  -- the remainder is shorter than a divisor that is not 0
   pub remainder-less : (a d : Listed K) → 0 < length (d .0) → length (remainder K (a .0) (d .0)) < length (d .0)
   unfolding remainder
   remainder-less a d some =
@@ -97,8 +96,12 @@ module _ (K : Arithmetic) (L : Lawful K) where
   unfolding quotient
   quotient-by-none p = trim-none (divide K p [] .quotient) (no-quotient p)
 
+  remainder-nil : (a : Listed K) → remainder-of a (P .nil) ≡ a
+  remainder-nil a =
+      let q : Listed K = quotient-of a (P .nil) in
+      let r : Listed K = remainder-of a (P .nil) in
+      by-facts (list-laws K L) (a ∷ q ∷ r ∷ []) (P .neg (P .unit) ⋆ division a (P .nil) ∷ []) (search terms depth 60 fits 100000) refl
+
   pub remainder-by-none : (a : Listed K) → remainder K (a .0) [] ≡ a .0
   unfolding polynomials
-  remainder-by-none a =
-      ap (λ (p : Listed K). p .0)
-      (rest-alone (list-laws K L) a (quotient-of a (P .nil)) (remainder-of a (P .nil)) (division a (P .nil)))
+  remainder-by-none a = list-path (remainder-nil a)
