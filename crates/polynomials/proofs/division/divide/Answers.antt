@@ -1,3 +1,4 @@
+-- Each turn brings down one coefficient more, as the definition of division does.
 use mathlib.Core.Path.{_≡_}
 use native.Mathlib.Omega.{arith}
 use Rattle.fields.specs.Lawful.{Lawful}

@@ -1,3 +1,4 @@
+-- Each turn counts one further and writes one coefficient more.
 use mathlib.Core.Path.{_≡_, _∙_, ap, ap₂}
 use mathlib.Core.Logic.{_≢_}
 use Prim.Native.Nat.{suc}
