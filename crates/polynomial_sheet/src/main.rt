@@ -1,5 +1,7 @@
-// Calculates with the polynomials of a sheet. Each line of standard input names a field and two polynomials over it, and is
-// answered by what the library makes of them; an empty line and one that begins with # are passed over.
+// Calculates with the polynomials of a sheet. A line of standard input is FIELD | A | B, where the field is `residues M`,
+// `nine` or `pairs M R`, and A and B are polynomials by their codes, the lowest coefficient first. The line is printed
+// again, and below it what the library makes of A and B, or why the line is refused. Empty lines and lines that begin with
+// # are passed over.
 use parse::polynomial;
 use parse::sides;
 use report::over;

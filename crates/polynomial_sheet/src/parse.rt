@@ -8,7 +8,7 @@ pub fn sides(text: &str) -> Option<(&str, &str, &str)> {
     Some((field, a, b))
 }
 
-// A polynomial by its coefficients, the lowest first, with spaces between; none of them is the polynomial 0.
+// A polynomial by its coefficients, the lowest first, with spaces between. No number at all is the polynomial 0.
 pub fn polynomial(text: &str) -> Option<Polynomial> {
     let mut codes = [0; 10];
     let mut n = 0;
@@ -22,7 +22,7 @@ pub fn polynomial(text: &str) -> Option<Polynomial> {
     Some(Polynomial { codes })
 }
 
-// A field: `residues M`, `nine`, or `pairs M R` over the residues.
+// The residues modulo M, the field of nine elements, or the pairs with t² = R over the residues modulo M.
 #[derive(Clone, Copy)]
 pub enum Named {
     Residues(u16),
@@ -30,6 +30,7 @@ pub enum Named {
     Pairs(u16, u32),
 }
 
+// A field by its name: `residues M`, `nine` or `pairs M R`.
 pub fn field(text: &str) -> Option<Named> {
     let mut words = text.split_whitespace();
     let named = match words.next()? {

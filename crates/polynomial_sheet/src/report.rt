@@ -49,6 +49,7 @@ fn over_residues(
     on_table(rt, m, r, &mut table[0..entries], a, b)
 }
 
+// The same, on a table for the inverses.
 fn on_table(
     rt: &LibcRuntime,
     m: u16,
@@ -70,7 +71,8 @@ fn on_table(
     }
 }
 
-// What the library makes of a and b.
+// What the library makes of a and b. The cofactors are `first` and `second`: first·a + second·b is the gcd. The multiple is a
+// times the leading coefficient of b.
 fn report<F: Field>(rt: &LibcRuntime, field: &F, a: Polynomial, b: Polynomial) -> io::Result<()> {
     let (quotient, remainder) = divide(field, a, b);
     let shared = gcd(field, a, b);
