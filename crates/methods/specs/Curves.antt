@@ -2,17 +2,23 @@
 use mathlib.Core.Bool.{Bool, cond, _&&_}
 use mathlib.Core.List.{[], _∷_}
 use mathlib.Core.Path.{_≡_}
-use Prim.Native.Nat.{ℕ}
+use Prim.Native.Nat.{ℕ, _≤_}
 use lib.Dec.{ltb, eqb}
 use lib.ListN.{length}
 use Rattle.std.specs.declared.result.Result.{Result}
 use Rattle.std.specs.declared.result.Result.the-variants.{Ok, Err}
 use Rattle.fields.specs.Arithmetic.{Arithmetic}
-use Rattle.polynomials.specs.Polynomial.{Polynomial, gcd, derivative}
+use Rattle.polynomials.specs.Polynomial.{Polynomial, leading, difference, product, gcd, derivative}
 use Rattle.polynomials.specs.Ten.{value}
 use Rattle.methods.specs.declared.curve.Curve.{Curve}
 use Rattle.methods.specs.declared.curve.CurveRefusal.{CurveRefusal}
 use Rattle.methods.specs.declared.curve.CurveRefusal.the-variants.{NotACode, Singular}
+
+-- V is the polynomial part of the square root of a monic sextic f: a monic cubic for which f − V² has a degree of at most 2.
+pub record RootOf (K : Arithmetic) (f V : Polynomial) : Type 0 where
+  pub cubic : length V ≡ 4
+  pub monic : leading V ≡ 1
+  pub close : length (difference K f (product K V V)) ≤ 3
 
 module _ (K : Arithmetic) (C : Curve) where
   unfoldable pub sextic : Polynomial

@@ -3,3 +3,4 @@ pub mod Divisors
 pub mod Drafts
 pub mod Sums
 pub mod Methods
+pub mod Theorems

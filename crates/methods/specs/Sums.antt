@@ -1,11 +1,12 @@
 -- The sum of two divisors on a curve: Cantor's composition, and one balanced step where the composite is not in range.
 use mathlib.Core.Bool.{Bool, true, false, cond, _&&_}
-use mathlib.Core.List.{List, [], _∷_}
-use Prim.Native.Nat.{ℕ, zero, suc, _+_, _-_}
+use mathlib.Core.Path.{_≡_}
+use Prim.Native.Nat.{ℕ, zero, suc, _+_, _-_, _≤_, _<_}
 use lib.Dec.{leb, eqb}
 use lib.ListN.{length, getD}
 use Rattle.fields.specs.Arithmetic.{Arithmetic}
 use Rattle.polynomials.specs.Polynomial.{Polynomial, leading, sum, negative, difference, multiple, product, quotient, remainder, Common, gcd}
+use Rattle.polynomials.specs.Proper.{Proper}
 use Rattle.methods.specs.declared.curve.Curve.{Curve}
 use Rattle.methods.specs.declared.divisor.Divisor.{Divisor}
 use Rattle.methods.specs.Curves.{sextic, root}
@@ -40,6 +41,17 @@ module _ (K : Arithmetic) where
         e2 = product K (h .first) (g .second);
         e3 = h .second;
       }
+
+  -- d is the monic greatest common divisor of u1, u2 and v1 + v2, and the polynomials e1, e2 and e3 combine them to it.
+  pub record Combining (D E : Divisor) (b : Bezout) : Type 0 where
+    pub greatest : b .d ≡ bezout (u-of K D) (u-of K E) (sum K (v-of K D) (v-of K E)) .d
+    pub combined : b .d
+        ≡ sum K
+        (sum K (product K (b .e1) (u-of K D)) (product K (b .e2) (u-of K E)))
+        (product K (b .e3) (sum K (v-of K D) (v-of K E)))
+    pub e1-proper : Proper K (b .e1)
+    pub e2-proper : Proper K (b .e2)
+    pub e3-proper : Proper K (b .e3)
 
   -- e1·u1·v2 + e2·u2·v1 + e3·(v1·v2 + f)
   unfoldable pub numerator : Polynomial → Bezout → (u1 v1 u2 v2 : Polynomial) → Polynomial
@@ -86,6 +98,12 @@ module _ (K : Arithmetic) where
 
   unfoldable pub stepped : Polynomial → Polynomial → Composite → Divisor
   stepped f V c = stepped-by f (lifted V c) (c .u)
+
+-- u of degree 0 to 4, and v of a smaller degree
+pub record Fair (c : Composite) : Type 0 where
+  pub some : 0 < length (c .u)
+  pub u-most : length (c .u) ≤ 5
+  pub v-smaller : length (c .v) < length (c .u)
 
 -- deg u ≤ 2 and 0 ≤ n ≤ 2 − deg u
 abbrev pub in-range : Composite → Bool

@@ -1,0 +1,7 @@
+pub mod Values
+pub mod SquareRoots
+pub mod Curves
+pub mod Shapes
+pub mod Representations
+pub mod Compositions
+pub mod Theorems
