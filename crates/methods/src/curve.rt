@@ -41,7 +41,18 @@ pub fn sextic<F: Field>(field: &F, curve: Curve) -> Polynomial
     ensures { λ r. ⌜ value (F·Field .meaning (now (field .entry))) (r .codes) ≡ sextic-of (F·Field .meaning (now (field .entry))) curve ⌝ }
 {
     Polynomial {
-        codes: [curve.f0, curve.f1, curve.f2, curve.f3, curve.f4, 0, 1, 0, 0, 0],
+        codes: [
+            curve.f0,
+            curve.f1,
+            curve.f2,
+            curve.f3,
+            curve.f4,
+            0,
+            1,
+            0,
+            0,
+            0,
+        ],
     }
 }
 
@@ -51,6 +62,17 @@ pub fn root<F: Field>(field: &F, curve: Curve) -> Polynomial
 {
     let half = field.inverse(field.sum(1, 1));
     Polynomial {
-        codes: [field.product(curve.f3, half), field.product(curve.f4, half), 0, 1, 0, 0, 0, 0, 0, 0],
+        codes: [
+            field.product(curve.f3, half),
+            field.product(curve.f4, half),
+            0,
+            1,
+            0,
+            0,
+            0,
+            0,
+            0,
+            0,
+        ],
     }
 }

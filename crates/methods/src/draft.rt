@@ -9,9 +9,9 @@ use crate::curve::Curve;
 use crate::curve::CurveRefusal;
 use crate::curve::sextic;
 use fields::Field;
-use polynomials::degree;
 use polynomials::derivative;
 use polynomials::gcd;
+use polynomials::places;
 
 // One of the five coefficients of a curve.
 #[derive(Clone, Copy)]
@@ -119,5 +119,5 @@ fn is_smooth<F: Field>(field: &F, curve: Curve) -> bool
 {
     let f = sextic(field, curve);
     let shared = gcd(field, f, derivative(field, f));
-    degree(field, shared.divisor) == Some(0)
+    places(field, shared.divisor) == 1
 }

@@ -1,4 +1,6 @@
 // Divisor classes of y² = f(x): curves and models, divisors, and methods that add and double them.
+pub use by_polynomials::ByPolynomials;
+pub use by_polynomials::ByPolynomialsMethod;
 pub use curve::Curve;
 pub use curve::CurveRefusal;
 pub use divisor::Divisor;
@@ -11,7 +13,10 @@ pub use draft::Draft;
 pub use draft::Model;
 pub use method::Method;
 
+mod by_polynomials;
+mod composition;
 mod curve;
 mod divisor;
 mod draft;
 mod method;
+mod reduction;
