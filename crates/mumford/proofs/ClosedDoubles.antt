@@ -13,7 +13,7 @@ use Rattle.algebra.proofs.PolynomialRing as A
 use Rattle.algebra.proofs.Constants as N
 use Rattle.mumford.specs.Divisors.{Valid}
 use Rattle.mumford.specs.Addition.{Sum}
-use Rattle.mumford.specs.ClosedForms.{Sextic, Quadratic, Fractions, Line, Quotient, Second, sextic, divisor, line, line-by, norm, quotient, second, double-a, double-b, double-fractions, double-by}
+use Rattle.mumford.specs.ClosedForms.{Sextic, Quadratic, Fractions, Line, Quotient, Second, sextic, divisor, line, line-by, lead, quotient, second, double-a, double-b, double-fractions, double-by}
 use Rattle.mumford.proofs.ClosedQuotients as Q
 use Rattle.mumford.proofs.ClosedQuotients.{letters}
 use Rattle.mumford.proofs.ClosedReduction.{Reducing}
@@ -27,7 +27,7 @@ abbrev pub twice-divided : {C : Type 0} → Ops C → Sextic C → Quadratic C �
 twice-divided op f D = second op D (quotient op f D)
 
 -- The equations of the reduction step: they are those of a sum of D with D.
-double-reducing : {K : Type 0} {o : Ops K} → Laws o → (f : Sextic K) (D : Quadratic K) (s1 s0 i : K) → o .mul (norm o s1) i ≡ o .unit
+double-reducing : {K : Type 0} {o : Ops K} → Laws o → (f : Sextic K) (D : Quadratic K) (s1 s0 i : K) → o .mul (lead o s1) i ≡ o .unit
     → Reducing o f D D (double-by o D (twice-divided o f D) (line o D s1 s0) i) (line o D s1 s0)
 double-reducing {K} {o} L f D s1 s0 i inverse =
     let s = line o D s1 s0 in
@@ -90,7 +90,7 @@ module _ {K : Type 0} {o : Ops K} (F : Field o) {P : Type 0} {p : Ops P} (H : Po
         by-facts L (u ∷ q ∷ a ∷ b ∷ c ∷ t ∷ []) (neg unit ⋆ h ∷ unit ⋆ e ∷ []) (search terms depth 60 fits 100000) refl,
       )
 
-  pub closed-double : {V : P} (i : K) → o .mul (norm o s1) i ≡ o .unit → Valid H (sextic H f) (divisor H D)
+  pub closed-double : {V : P} (i : K) → o .mul (lead o s1) i ≡ o .unit → Valid H (sextic H f) (divisor H D)
       → Sum H (sextic H f) V (divisor H D) (divisor H D)
       (divisor H
       (double-by o D (twice-divided o f D) (line-by o D (double-fractions o D (twice-divided o f D)) r⁻¹) i))

@@ -4,7 +4,7 @@ use mathlib.Core.List.{List, [], _∷_}
 use Rattle.algebra.specs.Ring.{Ops, Laws, sub}
 use Rattle.algebra.specs.Rows.{horner}
 use Rattle.algebra.proofs.Reify.{by-facts, _⋆_, terms}
-use Rattle.mumford.specs.ClosedForms.{Sextic, Quadratic, Line, two, norm, line, remaining, sum-a, sum-b}
+use Rattle.mumford.specs.ClosedForms.{Sextic, Quadratic, Line, two, lead, line, remaining, sum-a, sum-b}
 use Rattle.mumford.proofs.ClosedQuotients.{u-at, v-at, f-at, letters}
 
 module _ {P : Type 0} (p : Ops P) where
@@ -18,8 +18,8 @@ module _ {P : Type 0} (p : Ops P) where
   -- What u′ and v′ of a closed formula meet, for w = v2 + s·u2: the coefficients of x⁵ and x⁴ in
   -- f − w² = u1·u2·(1 − s1²)·u′, and v′ is the remainder of −w by u′.
   pub record Reducing (f : Sextic P) (D E S : Quadratic P) (s : Line P) : Type 0 where
-    pub at-5 : norm p (s .s1) · (S .a + D .a) ≡ sum-a p E s
-    pub at-4 : norm p (s .s1) · (S .b + D .b + D .a · S .a) ≡ sum-b p f E s
+    pub at-5 : lead p (s .s1) · (S .a + D .a) ≡ sum-a p E s
+    pub at-4 : lead p (s .s1) · (S .b + D .b + D .a · S .a) ≡ sum-b p f E s
     pub c-is : S .c ≡ remaining p E s (S .a) (S .b) .c
     pub e-is : S .e ≡ remaining p E s (S .a) (S .b) .e
 
@@ -32,7 +32,7 @@ module _ {P : Type 0} (p : Ops P) where
       let y2 : P = D .b + E .b + D .a · E .a in
       let y1 : P = D .a · E .b + D .b · E .a in
       let y0 : P = D .b · E .b in
-      let M : P = norm p (s .s1) in
+      let M : P = lead p (s .s1) in
       f .f0 - w0 · w0 - M · (y0 · S .b)
       ∷ f .f1 - two p (w1 · w0) - M · (y1 · S .b + y0 · S .a)
       ∷ f .f2 - two p (s .L2 · w0) - w1 · w1 - M · (y2 · S .b + y1 · S .a + y0)
@@ -46,7 +46,7 @@ module _ {P : Type 0} (p : Ops P) where
     abbrev constants : List P
     constants = x ∷ s1 ∷ s0 ∷ letters D (letters E (letters S (f .f4 ∷ f .f3 ∷ f .f2 ∷ f .f1 ∷ f .f0 ∷ [])))
 
-    pub above-4 : f-at p x f - w · w - u-at p x D · u-at p x E · (norm p s1 · u-at p x S)
+    pub above-4 : f-at p x f - w · w - u-at p x D · u-at p x E · (lead p s1 · u-at p x S)
         ≡ horner p x (below-4 f D E S (line p E s1 s0))
     above-4 =
         by-facts L constants (neg (x · x · x · x · (x + E .a)) ⋆ h .at-5 ∷ neg (x · x · x · x) ⋆ h .at-4 ∷ [])

@@ -20,7 +20,7 @@ use Rattle.algebra.proofs.Constants as N
 use Rattle.algebra.proofs.Rows as R
 use Rattle.mumford.specs.Divisors.{Divisor, degree, InRange, Valid}
 use Rattle.mumford.specs.Addition.{Composed, plain, Reduced, Sum, reduced}
-use Rattle.mumford.specs.ClosedForms.{Sextic, Quadratic, Line, sextic, divisor, norm, line, remaining, sum-a, sum-b}
+use Rattle.mumford.specs.ClosedForms.{Sextic, Quadratic, Line, sextic, divisor, lead, line, remaining, sum-a, sum-b}
 use Rattle.mumford.proofs.Composed as C
 use Rattle.mumford.proofs.ClosedQuotients.{u-at, v-at, letters}
 use Rattle.mumford.proofs.ClosedReduction as T
@@ -60,8 +60,8 @@ module _ {K : Type 0} {o : Ops K} (F : Field o) {P : Type 0} {p : Ops P} (H : Po
   w-is : w ≡ v-at p (x H) (lift H E) + horner p (x H) (constant H s0 ∷ constant H s1 ∷ []) · u-at p (x H) (lift H E)
   w-is = λ i. v-is F H E i + line-is F H s1 s0 i · u-is F H E i
 
-  norm-is : constant H (norm o s1) ≡ norm p (constant H s1)
-  norm-is = N.constant-eval F H (s1 ∷ []) (norm syntax (var 0))
+  lead-is : constant H (lead o s1) ≡ lead p (constant H s1)
+  lead-is = N.constant-eval F H (s1 ∷ []) (lead syntax (var 0))
 
   module _ (f : Sextic K) (S : Quadratic K) where
     -- The equations hold for the constants.
@@ -89,32 +89,32 @@ module _ {K : Type 0} {o : Ops K} (F : Field o) {P : Type 0} {p : Ops P} (H : Po
       lifted =
           record {
             at-5 =
-                N.constant-equation F H ρ (times (norm syntax (var 12)) (plus (S′ .a) (D′ .a))) (sum-a syntax E′ line′) (h .at-5);
+                N.constant-equation F H ρ (times (lead syntax (var 12)) (plus (S′ .a) (D′ .a))) (sum-a syntax E′ line′) (h .at-5);
             at-4 =
                 N.constant-equation F H ρ
-                (times (norm syntax (var 12)) (plus (plus (S′ .b) (D′ .b)) (times (D′ .a) (S′ .a))))
+                (times (lead syntax (var 12)) (plus (plus (S′ .b) (D′ .b)) (times (D′ .a) (S′ .a))))
                 (sum-b syntax f′ E′ line′) (h .at-4);
             c-is = N.constant-equation F H ρ (S′ .c) (remaining syntax E′ line′ (S′ .a) (S′ .b) .c) (h .c-is);
             e-is = N.constant-equation F H ρ (S′ .e) (remaining syntax E′ line′ (S′ .a) (S′ .b) .e) (h .e-is);
           }
 
       -- f − w² is u1·u2·(1 − s1²)·u′ up to a remainder of a smaller degree ..
-      up-to-remainder : sextic H f - w · w - u12 · (constant H (norm o s1) · divisor H S .u)
+      up-to-remainder : sextic H f - w · w - u12 · (constant H (lead o s1) · divisor H S .u)
           ≡ row H (below-4 o f D E S (line o E s1 s0))
       up-to-remainder =
-          (λ i. f-is F H f i - w-is i · w-is i - u-is F H D i · u-is F H E i · (norm-is i · u-is F H S i))
+          (λ i. f-is F H f i - w-is i · w-is i - u-is F H D i · u-is F H E i · (lead-is i · u-is F H S i))
           ∙ T.above-4 p L (x H) lifted
           ∙ sym (R.row-eval F H ρ (below-4 syntax f′ D′ E′ S′ line′))
 
       -- .. which is 0, since u1·u2 divides f − w².
-      factored : Divides p u12 (sextic H f - w · w) → sextic H f - w · w ≡ u12 · (constant H (norm o s1) · divisor H S .u)
+      factored : Divides p u12 (sextic H f - w · w) → sextic H f - w · w ≡ u12 · (constant H (lead o s1) · divisor H S .u)
       factored (t, e) =
           Y.eq-of-sub p L (sextic H f - w · w) (u12 · q)
           (Z.divides-small F H (t - q, divides (sextic H f - w · w) u12 q e)
           (omega (arith, ap size up-to-remainder, R.size-row F H (below-4 o f D E S (line o E s1 s0)), size-composite-u)))
         where
           q : P
-          q = constant H (norm o s1) · divisor H S .u
+          q = constant H (lead o s1) · divisor H S .u
 
           divides : (a u k : P) → a ≡ u · t → a - u · k ≡ u · (t - k)
           divides a u k h = by-facts L (a ∷ u ∷ k ∷ t ∷ []) (unit ⋆ h ∷ []) (search terms depth 60 fits 100000) refl
@@ -134,7 +134,7 @@ module _ {K : Type 0} {o : Ops K} (F : Field o) {P : Type 0} {p : Ops P} (H : Po
           reduced c (λ r. omega (arith, r .u-most, size-composite-u)) (plain size-composite-u)
           record {
             monic = monic-u F H S;
-            κ = norm o s1;
+            κ = lead o s1;
             u-is = factored (C.composed-represents F H hD hE c);
             v-is = record { congruent = remainder; smaller = omega (arith, size-v F H S, size-u F H S) };
             n-opposite = λ _. ap (λ n. pos 2 -ℤ pos n) two;

@@ -13,7 +13,7 @@ use Rattle.algebra.proofs.PolynomialRing as A
 use Rattle.algebra.proofs.Constants as N
 use Rattle.mumford.specs.Divisors.{Valid}
 use Rattle.mumford.specs.Addition.{Sum}
-use Rattle.mumford.specs.ClosedForms.{Sextic, Quadratic, Fractions, Line, sextic, divisor, line, line-by, norm, sum-a, sum-b, sum-fractions, sum-by}
+use Rattle.mumford.specs.ClosedForms.{Sextic, Quadratic, Fractions, Line, sextic, divisor, line, line-by, lead, sum-a, sum-b, sum-fractions, sum-by}
 use Rattle.mumford.proofs.ClosedQuotients as Q
 use Rattle.mumford.proofs.ClosedQuotients.{letters}
 use Rattle.mumford.proofs.ClosedReduction.{Reducing}
@@ -22,14 +22,14 @@ use Rattle.mumford.proofs.ClosedDivisors.{quadratic-from, lift, line-is, u-is,
 use Rattle.mumford.proofs.ClosedStep as T
 
 -- the equations of the reduction step
-sum-reducing : {K : Type 0} {o : Ops K} → Laws o → (f : Sextic K) (D E : Quadratic K) (s1 s0 i : K) → o .mul (norm o s1) i ≡ o .unit
+sum-reducing : {K : Type 0} {o : Ops K} → Laws o → (f : Sextic K) (D E : Quadratic K) (s1 s0 i : K) → o .mul (lead o s1) i ≡ o .unit
     → Reducing o f D E (sum-by o f D E (line o E s1 s0) i) (line o E s1 s0)
 sum-reducing {K} {o} L f D E s1 s0 i inverse =
     let s = line o E s1 s0 in
     let n = sum-a o E s in
     record {
-      at-5 = cancel (norm o s1) n (D .a) inverse;
-      at-4 = cancel-both (norm o s1) (sum-b o f E s) (D .b) (o .mul (D .a) (sub o (o .mul n i) (D .a))) inverse;
+      at-5 = cancel (lead o s1) n (D .a) inverse;
+      at-4 = cancel-both (lead o s1) (sum-b o f E s) (D .b) (o .mul (D .a) (sub o (o .mul n i) (D .a))) inverse;
       c-is = refl;
       e-is = refl;
     }
@@ -75,7 +75,7 @@ module _ {K : Type 0} {o : Ops K} (F : Field o) {P : Type 0} {p : Ops P} (H : Po
       (N.constant-equation F H ρ (times (var 8) (fractions .r)) (fractions .p) (Q.fraction (F .laws) n1 r r⁻¹ inverse))
       (N.constant-equation F H ρ (times (var 9) (fractions .r)) (fractions .o) (Q.fraction (F .laws) n0 r r⁻¹ inverse))))
 
-  pub closed-sum : {V : P} (f : Sextic K) (i : K) → o .mul (norm o s1) i ≡ o .unit
+  pub closed-sum : {V : P} (f : Sextic K) (i : K) → o .mul (lead o s1) i ≡ o .unit
       → Valid H (sextic H f) (divisor H D) → Valid H (sextic H f) (divisor H E)
       → Sum H (sextic H f) V (divisor H D) (divisor H E)
       (divisor H (sum-by o f D E (line-by o E (sum-fractions o D E) r⁻¹) i))

@@ -76,9 +76,9 @@ module _ {C : Type 0} (op : Ops C) where
   abbrev pub line-by : Quadratic C → Fractions C → (r⁻¹ : C) → Line C
   line-by E n r⁻¹ = line E (n .p · r⁻¹) (n .o · r⁻¹)
 
-  -- 1 − s1², the leading coefficient of f − w² for w = v2 + s·u2
-  abbrev pub norm : C → C
-  norm s1 = unit - s1 · s1
+  -- M = 1 − s1², the leading coefficient of f − w² for w = v2 + s·u2
+  abbrev pub lead : C → C
+  lead s1 = unit - s1 · s1
 
   -- Both: from u′ = x² + a′·x + b′, the remainder of −w by it.
   abbrev pub remaining : Quadratic C → Line C → (a′ b′ : C) → Quadratic C
