@@ -13,7 +13,7 @@ use Rattle.algebra.proofs.PolynomialRing as A
 use Rattle.algebra.proofs.Constants as N
 use Rattle.mumford.specs.Divisors.{Valid}
 use Rattle.mumford.specs.Addition.{Sum}
-use Rattle.mumford.specs.ClosedForms.{Sextic, Quadratic, Fractions, Line, Quotient, Second, sextic, divisor, line, line-by, lead, quotient, second, double-a, double-b, double-fractions, double-by}
+use Rattle.mumford.specs.ClosedForms.{Sextic, Quadratic, Fractions, Line, Second, sextic, divisor, line, line-by, lead, quotient, twice-divided, double-a, double-b, double-fractions, double-by}
 use Rattle.mumford.proofs.ClosedQuotients as Q
 use Rattle.mumford.proofs.ClosedQuotients.{letters}
 use Rattle.mumford.proofs.ClosedReduction.{Reducing}
@@ -21,10 +21,6 @@ use Rattle.mumford.proofs.ClosedComposite as G
 use Rattle.mumford.proofs.ClosedDivisors.{quadratic-from, sextic-from, coefficients, lift, lift-sextic, line-is, u-is, v-is}
 use Rattle.mumford.proofs.ClosedStep as T
 use Rattle.mumford.proofs.ClosedValidity as V
-
--- the quotient of f − v² by u, divided by u once more
-abbrev pub twice-divided : {C : Type 0} → Ops C → Sextic C → Quadratic C → Second C
-twice-divided op f D = second op D (quotient op f D)
 
 -- The equations of the reduction step: they are those of a sum of D with D.
 double-reducing : {K : Type 0} {o : Ops K} → Laws o → (f : Sextic K) (D : Quadratic K) (s1 s0 i : K) → o .mul (lead o s1) i ≡ o .unit

@@ -138,6 +138,10 @@ module _ {C : Type 0} (op : Ops C) where
       let g : C = Q .k + two (D .a · D .a) - D .b in
       record { g = g; K1 = Q .h - g · D .a + two (D .a · D .b); K0 = Q .j - g · D .b }
 
+  -- f − v² divided by u twice
+  abbrev pub twice-divided : Sextic C → Quadratic C → Second C
+  twice-divided f D = second D (quotient f D)
+
   abbrev pub double-fractions : Quadratic C → Second C → Fractions C
   double-fractions D T =
       record {

@@ -1,0 +1,6 @@
+// The layer of closed formulas over a method.
+
+#[derive(Clone, Copy)]
+pub struct Closed<M> {
+    pub method: M,
+}
