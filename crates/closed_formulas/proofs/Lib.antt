@@ -1,1 +1,2 @@
 pub mod Representations
+pub mod Validity

@@ -9,11 +9,11 @@ use Rattle.std.specs.declared.result.Result.{Result}
 use Rattle.std.specs.declared.result.Result.the-variants.{Ok, Err}
 use Rattle.algebra.specs.Ring.{Ops}
 use Rattle.fields.specs.Arithmetic.{Arithmetic}
-use Rattle.mumford.specs.ClosedForms.{Sextic, Quadratic, Fractions, Line, Second, lead, line-by, sum-fractions, sum-by, twice-divided, double-fractions, double-by}
+use Rattle.mumford.specs.ClosedForms.{Sextic, Quadratic, Fractions, Line, Quotient, Second, lead, line-by, sum-fractions, sum-by, twice-divided, double-fractions, double-by}
 use Rattle.methods.specs.declared.curve.Curve.{Curve}
 use Rattle.methods.specs.declared.divisor.Divisor.{Divisor}
 use Rattle.methods.specs.declared.divisor.DivisorRefusal.{DivisorRefusal}
-use Rattle.methods.specs.Divisors.{entered}
+use Rattle.methods.specs.Divisors.{linear-codes, entered}
 use Rattle.methods.specs.Methods.{Law}
 
 -- a field's operations on codes
@@ -31,6 +31,10 @@ letters D = record { a = D .u .x1; b = D .u .x0; c = D .v .x1; e = D .v .x0 }
 abbrev pub quadratic : Quadratic ℕ → Divisor
 quadratic S = record { degree = 2; u = record { x1 = S .a; x0 = S .b }; v = record { x1 = S .c; x0 = S .e }; n = 0 }
 
+-- nothing is left of f − v² divided by u
+abbrev pub exact : Quotient ℕ → Bool
+exact q = eqb (q .m) 0 && eqb (q .l) 0
+
 abbrev pub accepted : {X E : Type 0} → Result X E → Bool
 accepted (Ok _) = true
 accepted (Err _) = false
@@ -38,6 +42,10 @@ accepted (Err _) = false
 module _ (K : Arithmetic) where
   abbrev op : Ops ℕ
   op = operations K
+
+  -- degree 2, n = 0, and codes for coefficients
+  abbrev pub has-letters : Divisor → Bool
+  has-letters D = eqb (D .degree) 2 && eqb (D .n) 0 && linear-codes K (D .u) && linear-codes K (D .v)
 
   -- r ≠ 0 and p² ≠ r²
   abbrev pub applicable : Fractions ℕ → Bool

@@ -2,9 +2,10 @@
 -- are 0, and only there; and then the quotient is x⁴ − a·x³ + k·x² + h·x + j.
 use mathlib.Core.Path.{_≡_, refl, sym, _∙_, ap}
 use mathlib.Core.List.{[], _∷_}
-use Prim.Native.Nat.{ℕ, zero, suc}
+use Prim.Native.Nat.{ℕ, zero, suc, pred}
 use native.Mathlib.Omega.{arith}
 use lib.ListN.{getD}
+use Rattle.std.proofs.shelf.Signed.{ints}
 use Rattle.algebra.specs.Ring.{Ops, Laws, sub}
 use Rattle.algebra.specs.Field.{Field}
 use Rattle.algebra.specs.Polynomials.{Polynomials, constant, x}
@@ -15,10 +16,11 @@ use Rattle.algebra.proofs.PolynomialRing as A
 use Rattle.algebra.proofs.Size as Z
 use Rattle.algebra.proofs.Rows as R
 use Rattle.mumford.specs.Functions.{Represents}
+use Rattle.mumford.specs.Divisors.{Valid}
 use Rattle.mumford.specs.ClosedForms.{Sextic, Quadratic, Quotient, sextic, divisor, quotient}
 use Rattle.mumford.proofs.ClosedQuotients as Q
 use Rattle.mumford.proofs.ClosedQuotients.{Q-at, letters}
-use Rattle.mumford.proofs.ClosedDivisors.{quadratic-from, sextic-from, coefficients, lift, lift-sextic, u-is, v-is, f-is, size-u}
+use Rattle.mumford.proofs.ClosedDivisors.{quadratic-from, sextic-from, coefficients, lift, lift-sextic, u-is, v-is, f-is, size-u, monic-u, size-v}
 
 module _ {K : Type 0} {o : Ops K} (F : Field o) {P : Type 0} {p : Ops P} (H : Polynomials o p) (f : Sextic K) (D : Quadratic K) where
   infixl 75 _+_ _-_
@@ -74,13 +76,13 @@ module _ {K : Type 0} {o : Ops K} (F : Field o) {P : Type 0} {p : Ops P} (H : Po
   pub quotient-exact : Represents p (sextic H f) u v → sextic H f - v · v ≡ u · quotient-row
   quotient-exact h = exact (rest-nil h)
 
-  pub represents-only : Represents p (sextic H f) u v → (m ≡ o .nil) × (l ≡ o .nil)
+  represents-only : Represents p (sextic H f) u v → (m ≡ o .nil) × (l ≡ o .nil)
   represents-only h = (at 1, at 0)
     where
       at : (n : ℕ) → getD (l ∷ m ∷ []) n (o .nil) ≡ o .nil
       at n = sym (R.row-at F H (l ∷ m ∷ []) n) ∙ ap (λ r. H .coefficient r n) (rest-nil h) ∙ A.nil-at F H n
 
-  pub represents-by : m ≡ o .nil → l ≡ o .nil → Represents p (sextic H f) u v
+  represents-by : m ≡ o .nil → l ≡ o .nil → Represents p (sextic H f) u v
   represents-by em el = (quotient-row, exact none)
     where
       at : (n : ℕ) → getD (o .nil ∷ o .nil ∷ []) n (o .nil) ≡ o .nil
@@ -90,3 +92,18 @@ module _ {K : Type 0} {o : Ops K} (F : Field o) {P : Type 0} {p : Ops P} (H : Po
 
       none : rest ≡ nil
       none = (λ i. row H (el i ∷ em i ∷ [])) ∙ sym (R.row-same F H nil (o .nil ∷ o .nil ∷ []) λ n. A.nil-at F H n ∙ sym (at n))
+
+  -- So these are the valid ones among the divisors [x² + a·x + b; c·x + e; 0].
+
+  pub valid-only : Valid H (sextic H f) (divisor H D) → (m ≡ o .nil) × (l ≡ o .nil)
+  valid-only h = represents-only (h .represents)
+
+  pub valid-by : m ≡ o .nil → l ≡ o .nil → Valid H (sextic H f) (divisor H D)
+  valid-by em el =
+      let three = size-u F H D in
+      record {
+        monic = monic-u F H D;
+        smaller = omega (arith, size-v F H D);
+        range = record { u-most = omega arith; n-least = omega (arith, ints); n-most = omega (arith, ints, ap pred three) };
+        represents = represents-by em el;
+      }
