@@ -1,2 +1,3 @@
 pub mod Representations
 pub mod Validity
+pub mod Sums
