@@ -1,3 +1,4 @@
 pub mod Representations
 pub mod Validity
 pub mod Sums
+pub mod Lawful

@@ -30,9 +30,9 @@ use Rattle.methods.specs.Sums.{plus, twice}
 use Rattle.methods.proofs.Curves.{f-of, V-of}
 use Rattle.methods.proofs.Representations.{mumford-of, divisor-from}
 use Rattle.methods.proofs.Additions.{divisor-is-plus}
-use Rattle.closed_formulas.specs.Formulas.{operations, sextic-letters, quadratic, applicable, sum-letters, double-letters}
+use Rattle.closed_formulas.specs.Formulas.{operations, sextic-letters, letters, quadratic, applicable, of-degree-2, sum-letters, double-letters}
 use Rattle.closed_formulas.proofs.Representations.{numbers, Coded, accepted-coded, of-codes, of-codes-mumford, sextic-codes, sextic-codes-is}
-use Rattle.closed_formulas.proofs.Validity.{of-codes-valid, from-codes}
+use Rattle.closed_formulas.proofs.Validity.{of-codes-valid, from-codes, of-degree-2-valid, of-degree-2-letters}
 
 -- where 1 − (p/r)² is 0, p² is r²
 squares-same : {K : Type 0} {o : Ops K} → Laws o → (r p i : K) → o .mul r i ≡ o .unit → lead o (o .mul p i) ≡ o .nil → o .mul p p ≡ o .mul r r
@@ -120,3 +120,29 @@ module _ (K : Arithmetic) (L : Lawful K) where
         let i = F .inverse (M n applies) in
         sum-of-codes D D (double-by o D t (line-by o D n r⁻¹) i) v v
         (closed-double F H f D r⁻¹ (r-inverse n applies) i (M-inverse n applies) (of-codes-valid K L h D v))
+
+    -- The formulas' answers to valid divisors of degree 2.
+
+    pub sum-is-plus : (D E : Divisor) → of-degree-2 K C D ≡ true → of-degree-2 K C E ≡ true
+        → applicable K (sum-fractions (operations K) (letters D) (letters E)) ≡ true
+        → quadratic (sum-letters K C (letters D) (letters E)) ≡ plus K C D E
+    sum-is-plus D E hD hE =
+        let d = of-degree-2-letters K L h D hD in
+        let e = of-degree-2-letters K L h E hE in
+        subst₂
+        (λ A B. applicable K (sum-fractions (operations K) (letters A) (letters B)) ≡ true
+        → quadratic (sum-letters K C (letters A) (letters B)) ≡ plus K C A B)
+        (sym (d .is)) (sym (e .is))
+        (sum-codes (d .S) (e .S) (subst (Valid K C) (d .is) (of-degree-2-valid K L h D hD))
+        (subst (Valid K C) (e .is) (of-degree-2-valid K L h E hE)))
+
+    pub double-is-twice : (D : Divisor) → of-degree-2 K C D ≡ true
+        → applicable K (double-fractions (operations K) (letters D) (twice-divided (operations K) (sextic-letters C) (letters D))) ≡ true
+        → quadratic (double-letters K C (letters D)) ≡ twice K C D
+    unfolding twice
+    double-is-twice D hD =
+        let d = of-degree-2-letters K L h D hD in
+        subst
+        (λ A. applicable K (double-fractions (operations K) (letters A) (twice-divided (operations K) (sextic-letters C) (letters A))) ≡ true
+        → quadratic (double-letters K C (letters A)) ≡ plus K C A A)
+        (sym (d .is)) (double-codes (d .S) (subst (Valid K C) (d .is) (of-degree-2-valid K L h D hD)))

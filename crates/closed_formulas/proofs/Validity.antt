@@ -71,14 +71,13 @@ module _ (K : Arithmetic) (L : Lawful K) {C : Curve} (h : Coded K L C) where
     pub exact-valid : m ≡ codes K L .nil → l ≡ codes K L .nil → Valid K C (of-codes K L S)
     exact-valid em el = valid-of-codes S (V.valid-by F H f S em el)
 
-  -- The letters of a valid divisor of degree 2.
+  -- A divisor with letters is one of codes.
 
   pub record Lettered (D : Divisor) : Type 0 where
     pub S : Quadratic (Code (K .size))
     pub is : D ≡ of-codes K L S
-    pub numbers-are : letters D ≡ numbers S
 
-  pub has-letters-tells : (D : Divisor) → has-letters K D ≡ true → Lettered D
+  has-letters-tells : (D : Divisor) → has-letters K D ≡ true → Lettered D
   has-letters-tells D e =
       let two : D .degree ≡ 2 = grind (arith, tells) in
       let none : D .n ≡ 0 = grind (arith, tells) in
@@ -91,7 +90,6 @@ module _ (K : Arithmetic) (L : Lawful K) {C : Curve} (h : Coded K L C) where
               e = (D .v .x0, grind (arith, tells));
             };
         is = λ i. record { degree = two i; u = D .u; v = D .v; n = none i };
-        numbers-are = refl;
       }
 
   valid-letters : (D : Divisor) → Valid K C D → D .degree ≡ 2 → has-letters K D ≡ true
@@ -131,15 +129,18 @@ module _ (K : Arithmetic) (L : Lawful K) {C : Curve} (h : Coded K L C) where
     test-tells e =
         let (one, other) = and-parts (has-letters K D) left-over e in
         let k = has-letters-tells D one in
-        let exact-S = subst (λ S. exact (quotient (operations K) (sextic-letters C) S) ≡ true) (k .numbers-are) other in
-        (subst (Valid K C) (sym (k .is)) (exact-tells (k .S) exact-S), ap (λ (E : Divisor). E .degree) (k .is))
+        (
+          subst (Valid K C) (sym (k .is))
+              (exact-tells (k .S) (subst (λ E. exact (quotient (operations K) (sextic-letters C) (letters E)) ≡ true) (k .is) other)),
+          ap (λ (E : Divisor). E .degree) (k .is),
+        )
 
     tells-test : Found → (has-letters K D && left-over) ≡ true
     tells-test (v, two) =
         let one = valid-letters D v two in
         let k = has-letters-tells D one in
         and-from (has-letters K D) left-over one
-        (subst (λ S. exact (quotient (operations K) (sextic-letters C) S) ≡ true) (sym (k .numbers-are))
+        (subst (λ E. exact (quotient (operations K) (sextic-letters C) (letters E)) ≡ true) (sym (k .is))
         (tells-exact (k .S) (subst (Valid K C) (k .is) v)))
 
     accepted-tells : accepted (entered K C D) ≡ true → Valid K C D
@@ -149,7 +150,7 @@ module _ (K : Arithmetic) (L : Lawful K) {C : Curve} (h : Coded K L C) where
         by (Ok E) k t = accepted-valid K C D E k
         by (Err x) k t = absurd (false≢true t)
 
-    pub of-degree-2-tells : of-degree-2 K C D ≡ true → Found
+    of-degree-2-tells : of-degree-2 K C D ≡ true → Found
     of-degree-2-tells e =
         let (one, other) = and-parts (accepted (entered K C D)) (eqb (D .degree) 2) e in
         (accepted-tells one, eqb-true (D .degree) 2 other)
@@ -157,6 +158,12 @@ module _ (K : Arithmetic) (L : Lawful K) {C : Curve} (h : Coded K L C) where
     tells-of-degree-2 : Found → of-degree-2 K C D ≡ true
     tells-of-degree-2 (v, two) =
         and-from (accepted (entered K C D)) (eqb (D .degree) 2) (ap accepted v) (eq-eqb (D .degree) 2 two)
+
+    pub of-degree-2-valid : of-degree-2 K C D ≡ true → Valid K C D
+    of-degree-2-valid e = of-degree-2-tells e .0
+
+    pub of-degree-2-letters : of-degree-2 K C D ≡ true → Lettered D
+    of-degree-2-letters e = let (v, two) = of-degree-2-tells e in has-letters-tells D (valid-letters D v two)
 
     pub tests-agree : (has-letters K D && left-over) ≡ of-degree-2 K C D
     tests-agree =
