@@ -165,7 +165,18 @@ module _ (K : Arithmetic) (L : Lawful K) {C : Curve} (h : Coded K L C) where
     pub of-degree-2-letters : of-degree-2 K C D ≡ true → Lettered D
     of-degree-2-letters e = let (v, two) = of-degree-2-tells e in has-letters-tells D (valid-letters D v two)
 
-    pub tests-agree : (has-letters K D && left-over) ≡ of-degree-2 K C D
+    tests-agree : (has-letters K D && left-over) ≡ of-degree-2 K C D
     tests-agree =
         same-from-decides {P = Found} (has-letters K D && left-over) (of-degree-2 K C D) (test-tells, tells-test)
         (of-degree-2-tells, tells-of-degree-2)
+
+    -- the test in two steps
+
+    pub test-goes-on : {d : Quadratic ℕ} {q : Quotient ℕ} → d ≡ letters D → q ≡ quotient (operations K) (sextic-letters C) d
+        → has-letters K D ≡ true → exact q ≡ of-degree-2 K C D
+    test-goes-on {d} {q} hd hq e =
+        let same : exact q ≡ left-over = cc in
+        same ∙ sym (ap (λ t. t && left-over) e) ∙ tests-agree
+
+    pub test-ends : has-letters K D ≡ false → false ≡ of-degree-2 K C D
+    test-ends e = sym (ap (λ t. t && left-over) e) ∙ tests-agree
