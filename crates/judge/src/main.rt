@@ -1,8 +1,8 @@
 // Judges finite fields: reads a request from each line of standard input, makes the field, and prints what it is like, or
 // why it is refused.
 use judging::judge;
-use request::parse;
 use request::FaultDisplay;
+use request::parse;
 use std::io;
 use std::io::BufRead;
 use std::io::BufReader;
@@ -17,7 +17,10 @@ fn main(rt: LibcRuntime) -> io::Result<()> {
     for line in BufReader::new(rt.stdin()).lines(rt.alloc()) {
         match line {
             Ok(text) => answer(&rt, text.as_str().trim())?,
-            Err(e) if e.kind() == io::ErrorKind::InvalidData => println!(rt, "bad line: it is no text")?,
+            Err(e) if e.kind() == io::ErrorKind::InvalidData => println!(
+                rt,
+                "bad line: it is no text"
+            )?,
             Err(e) => return Err(e),
         }
     }

@@ -19,10 +19,19 @@ pub struct Report {
 
 pub impl fmt::Display for Report as ReportDisplay {
     fn fmt<W: fmt::Write>(&self, f: &mut fmt::Formatter<W>) -> fmt::Result {
-        let Report { elements, units, minus_one, half, product } = *self;
+        let Report {
+            elements,
+            units,
+            minus_one,
+            half,
+            product,
+        } = *self;
         let left = elements / 2;
         let right = elements - left;
-        write!(f, "{elements} elements, {units} units, -1 = {minus_one}, 1/2 = {half}, {left}*{right} = {product}")
+        write!(
+            f,
+            "{elements} elements, {units} units, -1 = {minus_one}, 1/2 = {half}, {left}*{right} = {product}"
+        )
     }
 }
 

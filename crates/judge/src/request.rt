@@ -50,8 +50,14 @@ pub impl fmt::Display for Fault as FaultDisplay {
 pub fn parse(line: &str) -> Result<Request, Fault> {
     let mut words = line.split_whitespace();
     let request = match words.next() {
-        Some("residues") => Request { base: Base::Residues(modulus(words.next())?), tower: Tower::Plain },
-        Some("nine") => Request { base: Base::Nine, tower: Tower::Plain },
+        Some("residues") => Request {
+            base: Base::Residues(modulus(words.next())?),
+            tower: Tower::Plain,
+        },
+        Some("nine") => Request {
+            base: Base::Nine,
+            tower: Tower::Plain,
+        },
         Some("pairs") => extension(&mut words)?,
         _ => return Err(Fault::Kind),
     };

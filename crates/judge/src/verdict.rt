@@ -5,7 +5,7 @@ use fields::FieldRefusal;
 use fields::FieldRefusalDisplay;
 use std::fmt;
 
-// A field, or a refusal: of the base field, or of the pairs with this r.
+// A field was made, or it was refused: the base field, or the pairs with this r.
 #[derive(Clone, Copy)]
 pub enum Verdict {
     Made(Report),
@@ -17,14 +17,20 @@ pub impl fmt::Display for Verdict as VerdictDisplay {
     fn fmt<W: fmt::Write>(&self, f: &mut fmt::Formatter<W>) -> fmt::Result {
         match self {
             Verdict::Made(report) => write!(f, "{report}"),
-            Verdict::NoBase(refusal) => {
-                let number = refusal.number();
-                write!(f, "refused with {number}: {refusal}")
-            }
+            Verdict::NoBase(refusal) => show(*refusal, f),
             Verdict::NoPairs(r, refusal) => {
-                let number = refusal.number();
-                write!(f, "r = {r} refused with {number}: {refusal}")
+                write!(f, "r = {r} ")?;
+                show(*refusal, f)
             }
         }
+    }
+}
+
+// The number of a refusal, the code that it names, and its condition in words.
+fn show<W: fmt::Write>(refusal: FieldRefusal, f: &mut fmt::Formatter<W>) -> fmt::Result {
+    let number = refusal.number();
+    match refusal.code() {
+        Some(code) => write!(f, "refused with {number} naming {code}: {refusal}"),
+        None => write!(f, "refused with {number}: {refusal}"),
     }
 }
