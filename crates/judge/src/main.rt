@@ -19,7 +19,7 @@ fn main(rt: LibcRuntime) -> io::Result<()> {
             Ok(text) => answer(&rt, text.as_str().trim())?,
             Err(e) if e.kind() == io::ErrorKind::InvalidData => println!(
                 rt,
-                "bad line: it is no text"
+                "bad line: no text"
             )?,
             Err(e) => return Err(e),
         }
