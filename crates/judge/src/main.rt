@@ -17,10 +17,7 @@ fn main(rt: LibcRuntime) -> io::Result<()> {
     for line in BufReader::new(rt.stdin()).lines(rt.alloc()) {
         match line {
             Ok(text) => answer(&rt, text.as_str().trim())?,
-            Err(e) if e.kind() == io::ErrorKind::InvalidData => println!(
-                rt,
-                "bad line: no text"
-            )?,
+            Err(e) if e.kind() == io::ErrorKind::InvalidData => println!(rt, "bad line: no text")?,
             Err(e) => return Err(e),
         }
     }
