@@ -6,7 +6,7 @@ use native.Mathlib.Omega.{arith}
 use lib.ListN.{length}
 use Rattle.fields.specs.Arithmetic.{Arithmetic}
 use Rattle.fields.specs.Lawful.{Lawful}
-use Rattle.polynomials.specs.Polynomial.{Polynomial, leading, sum, product, multiple, Common, euclid, gcd}
+use Rattle.polynomials.specs.Polynomial.{leading, sum, product, multiple, Common, euclid, gcd}
 use Rattle.polynomials.specs.Ten.{value, Is, CommonOf, Combines}
 use Rattle.polynomials.proofs.CommonDivisors.{gcd-combination-list}
 use Rattle.polynomials.proofs.Lengths.{multiple-length}

@@ -1,0 +1,9 @@
+pub mod Functions
+pub mod Divisors
+pub mod Accounts
+pub mod Composition
+pub mod Reduction
+pub mod Curve
+pub mod Growth
+pub mod Addition
+pub mod Settling
