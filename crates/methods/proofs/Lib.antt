@@ -1,0 +1,15 @@
+pub mod Values
+pub mod SquareRoots
+pub mod Curves
+pub mod Shapes
+pub mod Representations
+pub mod Compositions
+pub mod Reductions
+pub mod Additions
+pub mod Negatives
+pub mod Theorems
+pub mod Reading
+pub mod Entry
+pub mod Composing
+pub mod Reducing
+pub mod Worked
