@@ -8,3 +8,8 @@ pub mod Reductions
 pub mod Additions
 pub mod Negatives
 pub mod Theorems
+pub mod Reading
+pub mod Entry
+pub mod Composing
+pub mod Reducing
+pub mod Worked

@@ -32,3 +32,7 @@ doubled K C D = after (entered K C D) (Ok (twice K C D))
 pub record LawfulMethod (law : Law) : Type 0 where
   pub adds : (K : Arithmetic) (C : Curve) → Lawful K → Accepted K C → (D E : Divisor) → law .add K C D E ≡ added K C D E
   pub doubles : (K : Arithmetic) (C : Curve) → Lawful K → Accepted K C → (D : Divisor) → law .double K C D ≡ doubled K C D
+
+-- what the rules give
+abbrev pub the-law : Law
+the-law = record { add = added; double = doubled }

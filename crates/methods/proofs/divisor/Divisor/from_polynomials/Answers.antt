@@ -1,0 +1,6 @@
+use Rattle.methods.specs.Divisors.{divisor-of}
+use Rattle.methods.proofs.divisor.Divisor.from_polynomials.Needs as need
+
+pub returns : need.returns
+unfolding divisor-of
+returns g c = cc
