@@ -7,7 +7,7 @@
 \\ counts annihilates them all.
 
 default(recover, 0);
-read("tests/vectors/fields.gp");
+read("tests/vectors/codes.gp");
 
 \\ A divisor is [u, v, n], and a curve [field, f, V].
 

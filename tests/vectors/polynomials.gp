@@ -6,7 +6,7 @@
 \\ coefficient first. A number above q - 1 is read as 0.
 
 default(recover, 0);
-read("tests/vectors/fields.gp");
+read("tests/vectors/codes.gp");
 
 \\ Polynomials.
 
