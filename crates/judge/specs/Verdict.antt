@@ -22,21 +22,26 @@ use Rattle.judge.specs.declared.verdict.Verdict.the-variants.{Made, NoBase, No
 abbrev pub Asked : Type 0
 Asked = Result Arithmetic Verdict
 
+-- the field where its making answers that it is made, and else the verdict on the refusal
 abbrev pub accepted : Result (Unit {0}) FieldRefusal → Arithmetic → (FieldRefusal → Verdict) → Asked
 accepted (Ok _) K no-field = Ok K
 accepted (Err e) K no-field = Err (no-field e)
 
+-- the base field that is asked for
 abbrev pub base-asked : Base → Asked
 base-asked (Residues m) = accepted (fill-answer m m) (residues m) NoBase
 base-asked Nine = Ok nine
 
+-- the pairs with t² = r over K
 abbrev pub pairs-asked : Arithmetic → ℕ → Asked
 pairs-asked K r = accepted (pairs-answer K r) (pairs K (K .size) r) (NoPairs r)
 
+-- a field over the one that is asked for, if there is that one
 abbrev pub over : Asked → (Arithmetic → Asked) → Asked
 over (Ok K) field = field K
 over (Err v) field = Err v
 
+-- what is built on K
 abbrev pub tower-asked : Arithmetic → Tower → Asked
 tower-asked K Plain = Ok K
 tower-asked K (Once r) = pairs-asked K r

@@ -1,3 +1,4 @@
+-- The pairs over pairs: those below are what `over` promises of them, so the verdict on the upper ones is that on the tower.
 use mathlib.Core.Path.{_≡_}
 use Rattle.fields.specs.Arithmetic.{Arithmetic}
 use Rattle.fields.specs.Pairs.{pairs}
