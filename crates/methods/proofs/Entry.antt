@@ -43,9 +43,9 @@ module _ (K : Arithmetic) (C : Curve) (D : Divisor) where
       unfolding entered
       not-on-curve o = when-false _ _ o ∙ when-true _ _ c ∙ when-true _ _ s
 
-      pub all-right : true ≡ on-curve K C D → Ok D ≡ entered K C D
+      pub all-passed : true ≡ on-curve K C D → Ok D ≡ entered K C D
       unfolding entered
-      all-right o = when-true _ _ o ∙ when-true _ _ c ∙ when-true _ _ s
+      all-passed o = when-true _ _ o ∙ when-true _ _ c ∙ when-true _ _ s
 
   accepted-given : (E : Divisor) → Ok E ≡ entered K C D → E ≡ D
   unfolding entered

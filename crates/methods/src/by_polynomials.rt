@@ -4,7 +4,7 @@ ghost use Rattle.fields.specs.Arithmetic.{Arithmetic};
 ghost use Rattle.fields.specs.Lawful.{Lawful};
 ghost use Rattle.methods.specs.Divisors.{Valid};
 ghost use Rattle.methods.specs.Sums.{plus};
-ghost use Rattle.methods.specs.Methods.{the-law};
+ghost use Rattle.methods.specs.Methods.{LawfulMethod, the-law};
 use crate::composition::compose;
 use crate::curve::Curve;
 use crate::divisor::Divisor;
@@ -17,6 +17,15 @@ use fields::Field;
 // Composition and reduction by polynomials, on every curve.
 #[derive(Clone, Copy)]
 pub struct ByPolynomials;
+
+impl ByPolynomials {
+    // The method. Its answers are lawful.
+    pub fn new() -> ByPolynomials
+        ensures { λ _. ⌜ LawfulMethod the-law ⌝ }
+    {
+        ByPolynomials
+    }
+}
 
 pub impl<F: Field> Method<F> for ByPolynomials as ByPolynomialsMethod {
     ghost answers = { the-law };

@@ -40,19 +40,9 @@ impl CurveRefusal {
 pub fn sextic<F: Field>(field: &F, curve: Curve) -> Polynomial
     ensures { λ r. ⌜ value (F·Field .meaning (now (field .entry))) (r .codes) ≡ sextic-of (F·Field .meaning (now (field .entry))) curve ⌝ }
 {
+    let Curve { f4, f3, f2, f1, f0 } = curve;
     Polynomial {
-        codes: [
-            curve.f0,
-            curve.f1,
-            curve.f2,
-            curve.f3,
-            curve.f4,
-            0,
-            1,
-            0,
-            0,
-            0,
-        ],
+        codes: [f0, f1, f2, f3, f4, 0, 1, 0, 0, 0],
     }
 }
 
@@ -61,18 +51,9 @@ pub fn root<F: Field>(field: &F, curve: Curve) -> Polynomial
     ensures { λ r. ⌜ value (F·Field .meaning (now (field .entry))) (r .codes) ≡ root-of (F·Field .meaning (now (field .entry))) curve ⌝ }
 {
     let half = field.inverse(field.sum(1, 1));
+    let v1 = field.product(curve.f4, half);
+    let v0 = field.product(curve.f3, half);
     Polynomial {
-        codes: [
-            field.product(curve.f3, half),
-            field.product(curve.f4, half),
-            0,
-            1,
-            0,
-            0,
-            0,
-            0,
-            0,
-            0,
-        ],
+        codes: [v0, v1, 0, 1, 0, 0, 0, 0, 0, 0],
     }
 }

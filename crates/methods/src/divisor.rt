@@ -6,7 +6,7 @@ ghost use lib.ListN.{length, getD, take};
 ghost use Rattle.fields.specs.Arithmetic.{Arithmetic};
 ghost use Rattle.fields.specs.Lawful.{Lawful};
 ghost use Rattle.polynomials.specs.Ten.{value};
-ghost use Rattle.methods.specs.Divisors.{u-of, v-of, divisor-of, shaped, unused, linear-codes, on-curve, entered as entered-as, opposite, divisor-refusal-number};
+ghost use Rattle.methods.specs.Divisors.{u-of, v-of, divisor-of, shaped, unused, linear-codes, on-curve, entered as entered-as, Valid, neutral as neutral-divisor, opposite, divisor-refusal-number};
 use crate::curve::Curve;
 use crate::curve::sextic;
 use fields::Field;
@@ -60,6 +60,20 @@ impl DivisorRefusal {
 }
 
 impl Divisor {
+    // [1; 0; 1], which is valid on every curve.
+    pub fn neutral() -> Divisor
+        ensures value { λ r. ⌜ r ≡ neutral-divisor ⌝ }
+        ensures valid { λ r. ⌜ ((K : Arithmetic) (C : Curve) → Lawful K → Valid K C r) ⌝ }
+    {
+        let zero = Linear { x1: 0, x0: 0 };
+        Divisor {
+            degree: 0,
+            u: zero,
+            v: zero,
+            n: 1,
+        }
+    }
+
     // u as a polynomial, in which a number that is no code is read as 0.
     pub fn u_polynomial<F: Field>(self, field: &F) -> Polynomial
         ensures { λ r. ⌜ value (F·Field .meaning (now (field .entry))) (r .codes) ≡ u-of (F·Field .meaning (now (field .entry))) self ⌝ }

@@ -23,7 +23,9 @@ pub enum Coefficient {
     F0,
 }
 
-// A curve in the making: five numbers, at first 0. It is no curve yet, so nothing is added on it; the check takes it away.
+// A curve in the making: five numbers, at first 0. It is no curve yet, and nothing that adds divisors takes a draft: the build
+// refuses to add on one. The check moves it away: the build refuses to change or to look at a draft that the check took, so
+// begin a new one, or go on with the one that comes back with a refusal.
 #[derive(Drop)]
 pub struct Draft {
     f4: u32,
@@ -33,7 +35,7 @@ pub struct Draft {
     f0: u32,
 }
 
-// A field and a curve that the check has accepted. Nothing else makes one.
+// A field and a curve that the check has accepted. Its parts are private, and nothing but the check makes one.
 #[derive(Drop)]
 pub struct Model<F> {
     field: F,

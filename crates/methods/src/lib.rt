@@ -12,6 +12,8 @@ pub use draft::Coefficient;
 pub use draft::Draft;
 pub use draft::Model;
 pub use method::Method;
+pub use standing::sums_stand;
+pub use standing::worked_sums_stand;
 
 mod by_polynomials;
 mod composition;
@@ -20,3 +22,4 @@ mod divisor;
 mod draft;
 mod method;
 mod reduction;
+mod standing;

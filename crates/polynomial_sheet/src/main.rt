@@ -2,14 +2,16 @@
 // `nine` or `pairs M R`, and A and B are polynomials by their codes, the lowest coefficient first. The line is printed
 // again, and below it what the library makes of A and B, or why the line is refused. Empty lines and lines that begin with
 // # are passed over.
-use parse::polynomial;
-use parse::sides;
-use report::over;
+use notation::numbers;
+use notation::over;
+use notation::parse_field;
+use polynomials::Polynomial;
+use report::Report;
+use report::ReportTask;
 use std::io;
 use std::io::BufRead;
 use std::io::BufReader;
 
-mod parse;
 mod report;
 
 fn main(rt: LibcRuntime) -> io::Result<()> {
@@ -29,11 +31,28 @@ fn answer(rt: &LibcRuntime, text: &str) -> io::Result<()> {
     let Some((field, a, b)) = sides(text) else {
         return println!(rt, "refused: a line is FIELD | A | B");
     };
-    match (polynomial(a), polynomial(b)) {
-        (Some(a), Some(b)) => over(rt, field, a, b),
+    match (parse_field(field), polynomial(a), polynomial(b)) {
+        (Some(field), Some(a), Some(b)) => over(rt, field, Report { a, b }),
+        (None, Some(_), Some(_)) => println!(
+            rt,
+            "refused: a field is residues M, nine or pairs M R"
+        ),
         _ => println!(
             rt,
             "refused: a polynomial is at most ten numbers, the lowest coefficient first"
         ),
     }
+}
+
+// The three parts of a line `FIELD | A | B`.
+fn sides(text: &str) -> Option<(&str, &str, &str)> {
+    let (field, rest) = text.split_once('|')?;
+    let (a, b) = rest.split_once('|')?;
+    Some((field, a, b))
+}
+
+// A polynomial by its coefficients, the lowest first. No number at all is the polynomial 0.
+fn polynomial(text: &str) -> Option<Polynomial> {
+    let (codes, _) = numbers::<10>(text)?;
+    Some(Polynomial { codes })
 }

@@ -10,6 +10,6 @@ unfolding root
 returns g c =
     let K = g .F·Field .meaning (c .args .field .now) in
     let C = c .args .curve in
-    let a : c .product .result ≡ half K C (C .f3) = cc in
-    let b : c .product-2 .result ≡ half K C (C .f4) = cc in
-    value-padded K (c .product .result ∷ c .product-2 .result ∷ 0 ∷ 1 ∷ []) 6 ∙ ap₂ (λ x y. value K (x ∷ y ∷ 0 ∷ 1 ∷ [])) a b
+    let a : c .product-v0 .result ≡ half K C (C .f3) = cc in
+    let b : c .product-v1 .result ≡ half K C (C .f4) = cc in
+    value-padded K (c .product-v0 .result ∷ c .product-v1 .result ∷ 0 ∷ 1 ∷ []) 6 ∙ ap₂ (λ x y. value K (x ∷ y ∷ 0 ∷ 1 ∷ [])) a b

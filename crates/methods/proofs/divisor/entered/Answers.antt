@@ -1,5 +1,5 @@
 use mathlib.Core.Path.{sym, _∙_}
-use Rattle.methods.proofs.Entry.{not-shaped, not-codes, not-on-curve, all-right}
+use Rattle.methods.proofs.Entry.{not-shaped, not-codes, not-on-curve, all-passed}
 use Rattle.methods.proofs.divisor.entered.Needs as need
 
 pub returns-then-not-is-shaped : need.returns-then-not-is-shaped
@@ -21,5 +21,5 @@ returns-then-not-is-on-curve g c L =
 pub returns : need.returns
 returns g c L =
     let K = g .F·Field .meaning (c .args .field .now) in
-    all-right K (c .args .curve) (c .args .d) (c .if-not-is-shaped .ensures tt) (c .if-not-has-codes .ensures tt)
+    all-passed K (c .args .curve) (c .args .d) (c .if-not-is-shaped .ensures tt) (c .if-not-has-codes .ensures tt)
     (c .if-not-is-on-curve .ensures tt L)
