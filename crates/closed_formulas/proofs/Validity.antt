@@ -128,8 +128,7 @@ module _ (K : Arithmetic) (L : Lawful K) {C : Curve} (h : Coded K L C) where
     test-tells : (has-letters K D && left-over) ≡ true → Found
     test-tells e =
         let (one, other) = and-parts (has-letters K D) left-over e in
-        let k = has-letters-tells D one in
-        (
+        let k = has-letters-tells D one in (
           subst (Valid K C) (sym (k .is))
               (exact-tells (k .S) (subst (λ E. exact (quotient (operations K) (sextic-letters C) (letters E)) ≡ true) (k .is) other)),
           ap (λ (E : Divisor). E .degree) (k .is),

@@ -66,15 +66,15 @@ fn sum_by_formula<F: Field>(field: &F, curve: Curve, a: Divisor, b: Divisor) -> 
     if !is_of_degree_2(field, curve, a) || !is_of_degree_2(field, curve, b) {
         return None;
     }
-    let d = letters(a);
-    let e = letters(b);
-    let n = sum_fractions(field, d, e);
+    let d1 = letters(a);
+    let d2 = letters(b);
+    let n = sum_fractions(field, d1, d2);
     if !is_applicable(field, n) {
         return None;
     }
-    let s = slope(field, e, n);
+    let s = slope(field, d2, n);
     let i = lead_inverse(field, s);
-    Some(divisor(sum_by(field, curve, d, e, s, i)))
+    Some(divisor(sum_by(field, curve, d1, d2, s, i)))
 }
 
 // The double, where the divisor is valid and of degree 2, r ≠ 0 and p² ≠ r².
@@ -111,7 +111,10 @@ fn has_letters<F: Field>(field: &F, a: Divisor) -> bool
     ensures { λ r. ⌜ r ≡ has-letters (F·Field .meaning (now (field .entry))) a ⌝ }
 {
     let size = field.size();
-    a.degree == 2 && a.n == 0 && (a.u.x1 < size && a.u.x0 < size) && (a.v.x1 < size && a.v.x0 < size)
+    a.degree == 2
+        && a.n == 0
+        && (a.u.x1 < size && a.u.x0 < size)
+        && (a.v.x1 < size && a.v.x0 < size)
 }
 
 // Whether u divides f − v².

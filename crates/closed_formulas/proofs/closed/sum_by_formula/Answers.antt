@@ -18,13 +18,13 @@ returns-then-not-is-of-degree-2 g c L accepted =
 pub returns-then-not-is-applicable : need.returns-then-not-is-applicable
 returns-then-not-is-applicable g c L accepted =
     let K = g .F·Field .meaning (c .args .field .now) in
-    sum-not-applicable K (c .args .curve) (c .args .a) (c .args .b) (c .letters-d .ensures) (c .letters-e .ensures)
+    sum-not-applicable K (c .args .curve) (c .args .a) (c .args .b) (c .letters-d1 .ensures) (c .letters-d2 .ensures)
     (c .sum-fractions-n .ensures) (sym (c .is-applicable .ensures) ∙ c .if-not-is-applicable .taken)
 
 pub returns : need.returns
 returns g c L accepted =
     let K = g .F·Field .meaning (c .args .field .now) in
-    sum-road K (c .args .curve) (c .args .a) (c .args .b) (c .letters-d .ensures) (c .letters-e .ensures)
+    sum-road K (c .args .curve) (c .args .a) (c .args .b) (c .letters-d1 .ensures) (c .letters-d2 .ensures)
     (c .sum-fractions-n .ensures) (sym (c .is-of-degree-2 .ensures L accepted) ∙ c .if-not-is-of-degree-2 .left)
     (sym (c .is-of-degree-2-else-not-is-of-degree-2 .ensures L accepted) ∙ c .if-not-is-of-degree-2-2 .left)
     (sym (c .is-applicable .ensures) ∙ c .if-not-is-applicable .left)
