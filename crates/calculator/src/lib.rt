@@ -1,5 +1,6 @@
 // A calculator for divisor classes: sixteen registers on one model, the calls that use them, and lists of calls.
 pub use agreement::Comparison;
+pub use agreement::agree;
 pub use agreement::compare;
 pub use calculator::Calculator;
 pub use call::Answer;

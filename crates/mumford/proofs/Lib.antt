@@ -6,6 +6,14 @@ pub mod Congruences
 pub mod Composition
 pub mod Reduction
 pub mod Coprime
+pub mod ClosedQuotients
+pub mod ClosedReduction
+pub mod ClosedDivisors
+pub mod ClosedComposite
+pub mod ClosedStep
+pub mod ClosedValidity
+pub mod ClosedSums
+pub mod ClosedDoubles
 pub mod Smooth
 pub mod Approximation
 pub mod Norm
