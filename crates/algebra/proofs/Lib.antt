@@ -13,6 +13,8 @@ pub mod Coprime
 pub mod PolynomialRing
 pub mod Size
 pub mod Monic
+pub mod Constants
+pub mod Rows
 pub mod Derivative
 pub mod Squarefree
 pub mod Division

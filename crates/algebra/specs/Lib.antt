@@ -4,5 +4,6 @@ pub mod Series
 pub mod Divisibility
 pub mod CommonDivisor
 pub mod Polynomials
+pub mod Rows
 pub mod Division
 pub mod Quadratic

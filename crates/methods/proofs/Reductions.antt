@@ -28,6 +28,7 @@ use Rattle.polynomials.proofs.Divisibility.{divided, quotient-is}
 use Rattle.mumford.specs.Functions.{Represents}
 use Rattle.mumford.specs.Divisors as mumford
 use Rattle.mumford.specs.Addition.{Remainder, Chosen, plain, below, above, Reduced}
+use Rattle.mumford.proofs.Choice.{chosen-quotient}
 use Rattle.mumford.proofs.Reduced as T
 use Rattle.mumford.proofs.Remainders as R
 use Rattle.methods.specs.declared.curve.Curve.{Curve}
@@ -135,7 +136,7 @@ module _ (K : Arithmetic) (L : Lawful K) where
 
       q-short : (q ≢ P .nil) × (length (q .0) ≤ 3)
       q-short =
-          let (t, is, some, most) = T.chosen-quotient F H (curve K L C A) represents (fair .v-smaller) chosen in
+          let (t, is, some, most) = chosen-quotient F H (curve K L C A) represents (fair .v-smaller) chosen in
           let same : q ≡ t = q-is ∙ quotient-is K L (sub P f (P .mul w w)) (S .u) t (fair .some) is in
           (λ z. some (sym same ∙ z), omega (arith, ap (H .size) same))
 

@@ -3,9 +3,8 @@
 use mathlib.Core.Path.{_≡_, refl, sym, _∙_, ap, subst}
 use mathlib.Core.List.{List, [], _∷_, _++_, map}
 use Rattle.algebra.specs.Ring.{Ops, Laws}
-use Rattle.algebra.proofs.Reify.{by-ring, terms}
+use Rattle.algebra.proofs.Reify.{by-ring, by-facts, _⋆_, terms}
 use Rattle.mumford.specs.Accounts.{Sums, none, more, Multiple, Product, SameSets}
-use Rattle.algebra.proofs.Reify.{_⋆_, by-facts, terms}
 use Rattle.mumford.proofs.Sums.{Closed, Ideal, single, sums-closed, sums-in, sums-into, sums-into2, multiple-closed}
 
 module _ {R : Type 0} {o : Ops R} (L : Laws o) {D : Type 0} (Members : D → R → Type 0) where

@@ -2,7 +2,7 @@
 -- degree and n are what those of the two divisors make.
 use mathlib.Core.Path.{_≡_, refl, sym, _∙_, ap, subst}
 use mathlib.Core.List.{[], _∷_}
-use Prim.Native.Nat.{_<_, _+_ as _+ᴺ_}
+use Prim.Native.Nat.{_≤_, _<_, _+_ as _+ᴺ_}
 use native.Mathlib.Omega.{arith}
 use lib.IntN.{pos, negsuc, _+ℤ_, _-ℤ_}
 use lib.Signed.{_≤ℤ_}
@@ -25,7 +25,7 @@ use Rattle.mumford.specs.Composition.{Shared, numerator, Quotients, Composite}
 use Rattle.mumford.specs.Addition.{Composed}
 use Rattle.mumford.proofs.Congruences as C
 use Rattle.mumford.proofs.Remainders.{exact-quotient, remainder-of}
-use Rattle.mumford.proofs.Degrees.{degree-mul}
+use Rattle.mumford.proofs.Degrees.{size-degree, degree-mul}
 
 module _ {K : Type 0} {o : Ops K} (F : Field o) {P : Type 0} {p : Ops P} (H : Polynomials o p) {f : P} {D E : Divisor P}
     (hD : Valid H f D) (hE : Valid H f E) where
@@ -92,6 +92,19 @@ module _ {K : Type 0} {o : Ops K} (F : Field o) {P : Type 0} {p : Ops P} (H : Po
           degree-mul F H u1 u2 (M.monic-some F H u1 (hD .monic)) (M.monic-some F H u2 (hE .monic)),
           degree-mul F H (d · d) (S .u) (Z.mul-some F H d d sd sd) (M.monic-some F H (S .u) composed-monic),
           degree-mul F H d d sd sd,
+        )
+
+    -- so deg u ≤ 4
+    pub composed-most : size (S .u) ≤ 5
+    composed-most =
+        omega (
+          arith,
+          composed-degree,
+          size-degree F H u1 (M.monic-some F H u1 (hD .monic)),
+          size-degree F H u2 (M.monic-some F H u2 (hE .monic)),
+          size-degree F H (S .u) (M.monic-some F H (S .u) composed-monic),
+          hD .range .u-most,
+          hE .range .u-most,
         )
 
     -- −1 ≤ n, and n + deg u + deg d ≤ 3

@@ -35,7 +35,7 @@ quotients {o = o} L {f} {u1} {v1} {u2} {v2} {d} cancel g (k1, valid1) (k2, valid
           cancel = cancel;
         }
 
-module _ {P : Type 0} {o : Ops P} (L : Laws o) {f u1 v1 u2 v2 : P} {d : P} (c : Quotients o f u1 v1 u2 v2 d) where
+module _ {P : Type 0} {o : Ops P} (L : Laws o) {f u1 v1 u2 v2 d : P} (c : Quotients o f u1 v1 u2 v2 d) where
   infixl 75 _+_ _-_
   infixl 80 _·_
   open Ops o using (add as _+_, mul as _·_, neg, unit)

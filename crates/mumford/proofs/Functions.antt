@@ -12,7 +12,7 @@ both p q = λ i. (p i, q i)
 
 module _ {P : Type 0} {o : Ops P} (L : Laws o) (f : P) where
   infixl 80 _·_
-  open Ops o using (mul as _·_, unit)
+  open Ops o using (mul as _·_)
 
   pub function-laws : Laws (functions o f)
   function-laws =
@@ -51,9 +51,6 @@ module _ {P : Type 0} {o : Ops P} (L : Laws o) (f : P) where
   pub norm-mul : (g h : Function P) → norm o f (functions o f .mul g h) ≡ norm o f g · norm o f h
   norm-mul g h =
       by-ring L (g .0 ∷ g .1 ∷ h .0 ∷ h .1 ∷ f ∷ []) (search terms depth 60 fits 100000) refl
-
-  pub norm-unit : norm o f (functions o f .unit) ≡ unit
-  norm-unit = by-ring L (f ∷ []) (search terms depth 60 fits 100000) refl
 
   pub norm-constant : (a : P) → norm o f (constant o a) ≡ a · a
   norm-constant a = by-ring L (f ∷ a ∷ []) (search terms depth 60 fits 100000) refl

@@ -1,12 +1,12 @@
 -- What is carried from account to account. It is more than settling: the norms of g and h have the degrees that the account
 -- and the divisor ask for, which turns the equation of growths into that of the conjugates. What settles so the empty account,
 -- an account of one divisor, a joined account and a negated one.
-use mathlib.Core.Path.{_≡_, refl, _∙_, ap}
+use mathlib.Core.Path.{_≡_, refl, sym, _∙_, ap}
 use mathlib.Core.Logic.{_≢_}
 use mathlib.Core.List.{List, [], _∷_, _++_, map}
 use Prim.Native.Nat.{ℕ, _+_}
 use native.Mathlib.Omega.{arith}
-use lib.IntN.{ℤ, pos, _+ℤ_}
+use lib.IntN.{ℤ, pos, _+ℤ_, _-ℤ_}
 use Rattle.std.proofs.shelf.Signed.{ints}
 use Rattle.algebra.specs.Ring.{Ops, Laws}
 use Rattle.algebra.specs.Field.{Field}
@@ -15,6 +15,7 @@ use Rattle.algebra.proofs.PolynomialRing as A
 use Rattle.algebra.proofs.Size as Z
 use Rattle.mumford.specs.Functions.{Function, functions, conjugate, norm}
 use Rattle.mumford.specs.Divisors.{Divisor, Members, neutral, degree, negative, Valid}
+use Rattle.mumford.specs.Accounts.{SameSets}
 use Rattle.mumford.specs.Curve.{Curve}
 use Rattle.mumford.specs.Growth.{growth}
 use Rattle.mumford.specs.Settling.{excess, Settles}
@@ -57,9 +58,11 @@ module _ {K : Type 0} {o : Ops K} (F : Field o) {P : Type 0} {p : Ops P} (H : Po
   pub one-some : ring .unit ≢ ring .nil
   one-some e = Z.unit-some F H (ap (λ g. g .0) e)
 
-  -- The neutral divisor settles the empty account.
-  pub settled-neutral : Settled (neutral p) []
-  settled-neutral =
+  -- by g = h = 1
+  settled-by-one : {E : Divisor P} {A : List (Divisor P)} → SameSets ring (Members p) (ring .unit) (ring .unit) E A
+      → excess A ≡ E .n -ℤ pos 1 → total size A ≡ degree size (E .u)
+      → Settled E A
+  settled-by-one sets excesses degrees =
       record {
         settles =
             record {
@@ -67,27 +70,21 @@ module _ {K : Type 0} {o : Ops K} (F : Field o) {P : Type 0} {p : Ops P} (H : Po
               h = ring .unit;
               g-some = one-some;
               h-some = one-some;
-              sets = sets-empty ring-laws (Members p) (neutral p) (all-members L nil refl);
-              growths = omega (arith, ints);
+              sets = sets;
+              growths = ap (λ z. z +ℤ γ (ring .unit)) excesses;
             };
-        degrees = omega (arith, degree-unit F H);
+        degrees = ap (λ n. δ (ring .unit) + n) degrees;
       }
+
+  -- The neutral divisor settles the empty account.
+  pub settled-neutral : Settled (neutral p) []
+  settled-neutral =
+      settled-by-one (sets-empty ring-laws (Members p) (neutral p) (all-members L nil refl)) refl (sym (degree-unit F H))
 
   -- A valid divisor settles the account that it makes alone.
   pub settled-alone : {E : Divisor P} → Valid H f E → Settled E (E ∷ [])
   settled-alone {E} valid =
-      record {
-        settles =
-            record {
-              g = ring .unit;
-              h = ring .unit;
-              g-some = one-some;
-              h-some = one-some;
-              sets = sets-one ring-laws (Members p) E (members-ideal L (valid .represents));
-              growths = omega (arith, ints);
-            };
-        degrees = omega arith;
-      }
+      settled-by-one (sets-one ring-laws (Members p) E (members-ideal L (valid .represents))) (omega (arith, ints)) (omega arith)
 
   -- Where T settles E alone, it settles what E settles.
   pub settled-on : {E T : Divisor P} {A : List (Divisor P)} → Settled E A → Settled T (E ∷ []) → Settled T A

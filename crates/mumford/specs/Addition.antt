@@ -1,6 +1,5 @@
 -- The sum of two divisors: composition, and one step of reduction where the composite is not in range.
 use mathlib.Core.Path.{_≡_}
-use mathlib.Core.Logic.{_≢_}
 use Prim.Native.Nat.{_≤_, _<_}
 use lib.IntN.{pos, _+ℤ_, _-ℤ_}
 use lib.Signed.{_≤ℤ_, _<ℤ_}
@@ -39,6 +38,10 @@ module _ {K : Type 0} {o : Ops K} {P : Type 0} {p : Ops P} (H : Polynomials o p)
     below : {r : P} → H .size (D .u) ≤ 4 → D .n <ℤ pos 0 → Remainder H (D .v + V) (D .u) r → Chosen V D (neg V + r)
     above : {r : P} → H .size (D .u) ≤ 4 → pos 0 ≤ℤ D .n → Remainder H (sub p (D .v) V) (D .u) r → Chosen V D (V + r)
 
+  -- the x³ coefficient of w is −1
+  abbrev pub Opposite : P → Type 0
+  Opposite w = H .coefficient w 3 ≡ o .neg (o .unit)
+
   -- S comes from D by the step with w: u′ is (f − w²)/u made monic, v′ the remainder of −w by u′, and n′ is 2 − deg u′ if the
   -- x³ coefficient of w is −1, otherwise 0.
   pub record Reduced (f : P) (D S : Divisor P) (w : P) : Type 0 where
@@ -46,8 +49,8 @@ module _ {K : Type 0} {o : Ops K} {P : Type 0} {p : Ops P} (H : Polynomials o p)
     pub κ : K
     pub u-is : sub p f (w · w) ≡ D .u · (constant H κ · S .u)
     pub v-is : Remainder H (neg w) (S .u) (S .v)
-    pub n-opposite : H .coefficient w 3 ≡ o .neg (o .unit) → S .n ≡ pos 2 -ℤ pos (degree (H .size) (S .u))
-    pub n-other : H .coefficient w 3 ≢ o .neg (o .unit) → S .n ≡ pos 0
+    pub n-opposite : Opposite w → S .n ≡ pos 2 -ℤ pos (degree (H .size) (S .u))
+    pub n-other : ¬ Opposite w → S .n ≡ pos 0
 
   -- S is the sum of D and E: their composite where that is in range, and otherwise what one step makes of it.
   pub data Sum (f V : P) (D E : Divisor P) : Divisor P → Type 0 where

@@ -6,4 +6,5 @@ pub mod Reduction
 pub mod Curve
 pub mod Growth
 pub mod Addition
+pub mod ClosedForms
 pub mod Settling

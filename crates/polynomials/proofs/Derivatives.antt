@@ -1,12 +1,12 @@
 -- The coefficients of a derivative.
 use mathlib.Core.Path.{_≡_, refl, sym, _∙_, ap}
-use mathlib.Core.List.{List, [], _∷_}
-use Prim.Native.Nat.{ℕ, zero, suc, _+_, _-_, _≤_, _<_}
+use mathlib.Core.List.{[], _∷_}
+use Prim.Native.Nat.{ℕ, zero, suc, _+_, _-_, _≤_}
 use native.Mathlib.Omega.{arith}
 use lib.ListN.{length, getD}
 use Rattle.fields.specs.Arithmetic.{Arithmetic}
-use Rattle.fields.specs.Lawful.{Abelian, Lawful}
-use Rattle.polynomials.specs.Polynomial.{Polynomial, trim, numeral, weigh, derive, derivative}
+use Rattle.fields.specs.Lawful.{Lawful}
+use Rattle.polynomials.specs.Polynomial.{Polynomial, numeral, weigh, derive, derivative}
 use Rattle.polynomials.proofs.Laws.{times-zero}
 use Rattle.polynomials.proofs.Coefficients.{Codes, code-by, trim-shorter}
 

@@ -5,7 +5,7 @@ use mathlib.Core.Bool.{Bool, true, false, false≢true}
 use mathlib.Core.List.{List}
 use Prim.Native.Nat.{ℕ, _<_}
 use native.Mathlib.Omega.{arith}
-use lib.ListN.{length, getD}
+use lib.ListN.{getD}
 use lib.Seq.{ext-getD}
 use borrow.Author.Needs.{needs}
 use Rattle.std.specs.Orderings.{Decides}
@@ -16,7 +16,7 @@ use Rattle.polynomials.specs.Polynomial.{Polynomial, trim, same}
 use Rattle.polynomials.specs.Ten.{value, Read}
 use Rattle.polynomials.proofs.Tens.{read-at, read-trim}
 
-pub same-decides : (p q : Polynomial) → Decides (same p q) (p ≡ q)
+same-decides : (p q : Polynomial) → Decides (same p q) (p ≡ q)
 same-decides = compares-decides same (search needs)
 
 -- a test that decides whether p and q are equal answers as the definition does

@@ -1,12 +1,11 @@
-use mathlib.Core.Path.{_≡_, ap}
-use Prim.Native.Nat.{_<_}
+-- Each turn brings down one coefficient more, as the definition of division does.
+use mathlib.Core.Path.{_≡_}
 use native.Mathlib.Omega.{arith}
-use lib.ListN.{length, drop}
 use Rattle.fields.specs.Lawful.{Lawful}
-use Rattle.polynomials.specs.Polynomial.{trim, remainder}
-use Rattle.polynomials.specs.Ten.{value}
+use Rattle.polynomials.specs.Polynomial.{trim, quotient, remainder}
+use Rattle.polynomials.specs.Ten.{value, Is}
 use Rattle.polynomials.proofs.LongDivision.{Divided, divided-none, divided-turn}
-use Rattle.polynomials.proofs.Promises.{quotient-is, remainder-is, remainder-under}
+use Rattle.polynomials.proofs.Promises.{quotient-is, remainder-is, remainder-lower, divides-whole, divides-by-zero}
 use Rattle.polynomials.proofs.Tens.{read-codes}
 use Rattle.polynomials.proofs.division.divide.Needs as need
 
@@ -26,16 +25,22 @@ loop-i-again g c L =
 pub returns : need.returns
 returns g c =
     let K = g .F·Field .meaning (c .args .field .now) in
-    let x = c .clean-dividend .result .codes in
-    let y = c .clean-divisor .result .codes in
     let a = c .args .a .codes in
     let b = c .args .b .codes in
-    let e : c .loop-i .i ≡ 0 = omega arith in
-    let whole : Lawful K → Divided K (drop 0 x) (trim y) (c .loop-i .q .codes) (c .loop-i .r .codes) = λ L. rw e at (c .loop-i .inv L) in
+    let end : c .loop-i .i ≡ 0 = omega arith in
+    let whole : Lawful K → Divided K (c .clean-dividend .result .codes) (trim (c .clean-divisor .result .codes)) (c .loop-i .q .codes) (c .loop-i .r .codes) =
+    λ L. rw end at (c .loop-i .inv L)
+    in
+    let hq : Lawful K → Is K (c .loop-i .q .codes) (quotient K (value K a) (value K b)) =
+    λ L. quotient-is K L (c .clean-dividend .ensures) (c .clean-divisor .ensures) (whole L)
+    in
+    let hr : Lawful K → Is K (c .loop-i .r .codes) (remainder K (value K a) (value K b)) =
+    λ L. remainder-is K L (c .clean-dividend .ensures) (c .clean-divisor .ensures) (whole L)
+    in
     record {
-      quotient = λ L. quotient-is K L (c .clean-dividend .ensures) (c .clean-divisor .ensures) (whole L);
-      remainder = λ L. remainder-is K L (c .clean-dividend .ensures) (c .clean-divisor .ensures) (whole L);
-      below = λ L h.
-          let n : length (remainder K (value K a) (value K b)) < length (value K b) = remainder-under K L a b h in
-          omega (arith, ap length (remainder-is K L (c .clean-dividend .ensures) (c .clean-divisor .ensures) (whole L) .stands));
+      quotient = hq;
+      remainder = hr;
+      below = λ L. remainder-lower K L a b (hq L) (hr L);
+      whole = λ L. divides-whole K L a b (hq L) (hr L);
+      by-zero = λ L. divides-by-zero K L a b (hq L) (hr L);
     }

@@ -1,3 +1,4 @@
+-- q and r are quotient and remainder of the coefficients of the dividend from i on.
 use lib.ListN.{drop}
 use Rattle.fields.specs.Lawful.{Lawful}
 use Rattle.polynomials.specs.Polynomial.{trim}

@@ -1,3 +1,4 @@
+-- Euclid's steps end at 0, or go on with divisor and remainder.
 use mathlib.Core.Path.{_≡_, refl}
 use mathlib.Core.Logic.{_⊎_, inl, inr}
 use native.Mathlib.Omega.{arith}

@@ -1,3 +1,4 @@
+-- Each call has a step less to go.
 use Rattle.polynomials.proofs.divisors.+euclid.Given as given
 
 abbrev pub μ-euclid : given.MeasureT-euclid

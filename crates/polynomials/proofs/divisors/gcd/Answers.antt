@@ -1,3 +1,4 @@
+-- What Euclid's steps give, made monic, is the greatest common divisor with its cofactors.
 use mathlib.Core.Path.{_∙_, ap}
 use native.Mathlib.Omega.{arith}
 use Rattle.polynomials.proofs.Combinations.{made-monic}

@@ -1,3 +1,4 @@
+-- The weighed codes are the coefficients of the derivative.
 use Rattle.polynomials.proofs.Promises.{derivative-is}
 use Rattle.polynomials.proofs.ring.derivative.Needs as need
 

@@ -1,3 +1,4 @@
+-- The sums with negatives are the coefficients of the difference.
 use Rattle.polynomials.proofs.Promises.{difference-is}
 use Rattle.polynomials.proofs.ring.difference.Needs as need
 

@@ -1,3 +1,4 @@
+-- The multiples of codes are the coefficients of the multiple.
 use Rattle.polynomials.proofs.Promises.{multiple-is}
 use Rattle.polynomials.proofs.ring.multiple.Needs as need
 

@@ -1,3 +1,4 @@
+-- The negatives of codes are the coefficients of the negative.
 use Rattle.polynomials.proofs.Promises.{negative-is}
 use Rattle.polynomials.proofs.ring.negative.Needs as need
 

@@ -1,3 +1,4 @@
+-- Each turn takes one coefficient of the left factor more, as the definition of the product does.
 use mathlib.Core.Path.{_≡_}
 use native.Mathlib.Omega.{arith}
 use lib.ListN.{getD, drop}

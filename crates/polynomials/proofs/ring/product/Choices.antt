@@ -1,3 +1,4 @@
+-- r is the product of the coefficients of the left factor from i on with the right factor, up to ten codes.
 use lib.ListN.{getD, drop}
 use Rattle.fields.specs.Lawful.{Lawful}
 use Rattle.polynomials.specs.Polynomial.{multiply}

@@ -1,3 +1,4 @@
+-- The sums of codes are the coefficients of the sum.
 use Rattle.polynomials.proofs.Promises.{sum-is}
 use Rattle.polynomials.proofs.ring.sum.Needs as need
 

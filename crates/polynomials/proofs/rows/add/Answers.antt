@@ -1,3 +1,4 @@
+-- Each turn writes one sum more.
 use native.Mathlib.Omega.{arith}
 use Rattle.polynomials.proofs.Filling.{filled-more}
 use Rattle.polynomials.proofs.rows.add.Needs as need

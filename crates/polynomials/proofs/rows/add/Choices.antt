@@ -1,3 +1,4 @@
+-- The places below i hold sums.
 use lib.ListN.{getD}
 use Rattle.polynomials.specs.Ten.{Filled}
 use Rattle.polynomials.proofs.rows.add.Given as given

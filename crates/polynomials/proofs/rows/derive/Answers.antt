@@ -1,6 +1,7 @@
+-- Each turn counts one further and writes one coefficient more.
 use mathlib.Core.Path.{_≡_, _∙_, ap, ap₂}
 use mathlib.Core.Logic.{_≢_}
-use Prim.Native.Nat.{suc, _+_}
+use Prim.Native.Nat.{suc}
 use native.Mathlib.Numerals.{add-one}
 use native.Mathlib.Omega.{arith}
 use lib.ListN.{getD}

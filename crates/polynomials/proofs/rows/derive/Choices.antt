@@ -1,3 +1,4 @@
+-- The places below i hold the coefficients of the derivative, n is i as an element of the field, and the last place is 0.
 use mathlib.Core.Path.{_≡_}
 use Prim.Native.Nat.{suc}
 use lib.ListN.{getD}

@@ -1,3 +1,4 @@
+-- Each turn writes one negative more.
 use native.Mathlib.Omega.{arith}
 use Rattle.polynomials.proofs.Filling.{filled-more}
 use Rattle.polynomials.proofs.rows.negate.Needs as need

@@ -1,3 +1,4 @@
+-- The places below i hold negatives.
 use lib.ListN.{getD}
 use Rattle.polynomials.specs.Ten.{Filled}
 use Rattle.polynomials.proofs.rows.negate.Given as given

@@ -1,3 +1,4 @@
+-- The places below i hold multiples by x.
 use lib.ListN.{getD}
 use Rattle.polynomials.specs.Ten.{Filled}
 use Rattle.polynomials.proofs.rows.scale.Given as given

@@ -1,3 +1,4 @@
+-- Each turn moves one code up.
 use mathlib.Core.Path.{_≡_, ap}
 use mathlib.Core.List.{List, _∷_}
 use Prim.Native.Nat.{ℕ, zero, suc, _-_, _<_}

@@ -1,3 +1,4 @@
+-- The places below i hold x and what stands one place lower in a.
 use mathlib.Core.List.{_∷_}
 use lib.ListN.{getD}
 use Rattle.polynomials.specs.Ten.{Filled}

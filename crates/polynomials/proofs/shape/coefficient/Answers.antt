@@ -1,3 +1,4 @@
+-- Below ten the code that is read, and above it 0, since there are at most ten coefficients.
 use mathlib.Core.Path.{sym}
 use native.Mathlib.Omega.{arith}
 use lib.ListN.{List·getD-eq-default}

@@ -1,3 +1,4 @@
+-- A code that differs tells the polynomials apart, and without one they are equal.
 use native.Mathlib.Omega.{arith}
 use Rattle.polynomials.proofs.Equality.{same-is, equal-yes, equal-no}
 use Rattle.polynomials.proofs.shape.equal.Needs as need

@@ -1,3 +1,4 @@
+-- The codes below i are equal.
 use mathlib.Core.Path.{_≡_}
 use Prim.Native.Nat.{ℕ, _<_}
 use lib.ListN.{getD}

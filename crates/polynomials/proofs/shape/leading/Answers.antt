@@ -1,3 +1,4 @@
+-- The code at the highest place is the leading coefficient.
 use mathlib.Core.Path.{sym, _∙_, ap}
 use Prim.Native.Nat.{pred}
 use lib.ListN.{length, getD}

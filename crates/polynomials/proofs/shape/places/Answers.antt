@@ -1,3 +1,4 @@
+-- The count of what is read is the number of coefficients.
 use mathlib.Core.Path.{_∙_, ap}
 use lib.ListN.{length}
 use Rattle.polynomials.proofs.Tens.{read-trim}

@@ -1,0 +1,5 @@
+pub mod Functions
+pub mod Growth
+pub mod Members
+pub mod Accounts
+pub mod Built

@@ -1,0 +1,4 @@
+pub mod Functions
+pub mod Growth
+pub mod Settling
+pub mod Theorems

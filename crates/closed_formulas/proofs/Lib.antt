@@ -1,0 +1,5 @@
+pub mod Representations
+pub mod Validity
+pub mod Sums
+pub mod Lawful
+pub mod Roads
