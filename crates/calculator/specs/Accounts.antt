@@ -13,7 +13,7 @@ use Rattle.classes.specs.Settling.{Settles, Built}
 use Rattle.calculator.specs.declared.call.Call.{Call}
 use Rattle.calculator.specs.declared.call.Call.the-variants.{Enter, Add, Double, Negate, Show}
 use Rattle.calculator.specs.declared.call.CallRefusal.{CallRefusal}
-use Rattle.calculator.specs.Calls.{at, numbered, or-invalid, posted}
+use Rattle.calculator.specs.Calls.{at, numbered, or-invalid, nothing, posted}
 
 -- An account is a list of divisors.
 abbrev pub Account : Type 0
@@ -23,22 +23,29 @@ Account = List Divisor
 abbrev pub account : List Account → ℕ → Account
 account books k = getD books k []
 
--- The account of a divisor alone.
-abbrev pub alone : Result Divisor CallRefusal → Result Account CallRefusal
-alone (Ok D) = Ok (D ∷ [])
-alone (Err e) = Err e
+-- Whether a call is accepted, by its arguments, the field and the curve: Enter is refused on 1, 4, 5 and 9, the others on 1.
+abbrev pub admitted : Arithmetic → Curve → Call → Result (Unit {0}) CallRefusal
+admitted K C (Enter t D) = numbered t (nothing (or-invalid (entered K C D)))
+admitted K C (Add t a b) = numbered t (numbered a (numbered b (Ok tt)))
+admitted K C (Double t a) = numbered t (numbered a (Ok tt))
+admitted K C (Negate t a) = numbered t (numbered a (Ok tt))
+admitted K C (Show a) = numbered a (Ok tt)
 
--- The account that a call gives its target, from the accounts before it; or why the call is refused.
-abbrev pub drawn : Arithmetic → Curve → List Account → Call → Result Account CallRefusal
-drawn K C books (Enter t D) = numbered t (alone (or-invalid (entered K C D)))
-drawn K C books (Add t a b) = numbered t (numbered a (numbered b (Ok (account books a ++ account books b))))
-drawn K C books (Double t a) = numbered t (numbered a (Ok (account books a ++ account books a)))
-drawn K C books (Negate t a) = numbered t (numbered a (Ok (map (opposite K) (account books a))))
-drawn K C books (Show a) = numbered a (Ok (account books a))
+-- The account that an accepted call draws up, from the accounts as they stood before it.
+abbrev pub drawn : Arithmetic → List Account → Call → Account
+drawn K books (Enter t D) = D ∷ []
+drawn K books (Add t a b) = account books a ++ account books b
+drawn K books (Double t a) = account books a ++ account books a
+drawn K books (Negate t a) = map (opposite K) (account books a)
+drawn K books (Show a) = account books a
 
--- The accounts after a call: the target's is the one that is drawn up, and all others stay. Refused calls and Show change none.
+abbrev pub when : {X : Type 0} → Result (Unit {0}) CallRefusal → X → Result X CallRefusal
+when (Ok _) x = Ok x
+when (Err e) x = Err e
+
+-- The accounts after a call: the target has the one that is drawn up, and all others stay; refused calls and Show change none.
 abbrev pub booked : Arithmetic → Curve → List Account → Call → List Account
-booked K C books call = posted books call (drawn K C books call)
+booked K C books call = posted books call (when (admitted K C call) (drawn K books call))
 
 -- The accounts after calls, one after another.
 abbrev pub all-booked : Arithmetic → Curve → List Account → List Call → List Account

@@ -16,8 +16,8 @@ use Rattle.calculator.specs.declared.call.CallRefusal.{CallRefusal}
 use Rattle.calculator.specs.declared.call.Exchange.{Exchange}
 use Rattle.calculator.specs.declared.agreement.Comparison.{Comparison}
 use Rattle.calculator.specs.declared.calculator.Calculator.{Calculator}
-use Rattle.calculator.specs.Calls.{sixteen-neutral, given, next, nexts, replies}
-use Rattle.calculator.specs.Accounts.{Account, AllBuilt, AllSettle, booked, all-booked, accounts}
+use Rattle.calculator.specs.Calls.{sixteen-neutral, given, next, verdict, nexts, replies}
+use Rattle.calculator.specs.Accounts.{Account, AllBuilt, AllSettle, admitted, all-booked, accounts}
 
 -- The calls of a list of exchanges, and their answers; the same of comparisons.
 
@@ -69,24 +69,25 @@ module _ {F M : Type 0} where
       pub model : new .model ≡ old .model
       pub registers : Sound law old → held new ≡ on old next (held old) call
 
-    -- The law of a call: whatever sixteen accounts the registers were built with, after it they are built with the accounts that it
-    -- draws up from those.
-    abbrev pub Accounted : Law → Call → Calculator F M → Calculator F M → Type 0
-    Accounted law call old new =
-        Sound law old → (books : List Account) → on old AllBuilt (held old) books → on old AllBuilt (held new) (on old booked books call)
-
-    -- What calls leave, one after another, what was answered to them, and the same law of accounts.
+    -- What calls leave, one after another, and what was answered to them.
     pub record LeftAll (law : Law) (calls : List Call) (old new : Calculator F M) (answers : List Answer) : Type 0 where
       pub model : new .model ≡ old .model
       pub answered : Sound law old → answers ≡ on old replies (held old) calls
       pub registers : Sound law old → held new ≡ on old nexts (held old) calls
-      pub accounts : Sound law old → (books : List Account) → on old AllBuilt (held old) books
+
+    -- The law of accounts, whatever sixteen accounts the registers were built with: calls are refused as their arguments, the field
+    -- and the curve show, and after them the registers are built with the accounts that the calls draw up.
+    pub record Accounted (law : Law) (calls : List Call) (old new : Calculator F M) (answers : List Answer) : Type 0 where
+      pub refused : Sound law old → (books : List Account) → on old AllBuilt (held old) books
+          → map verdict answers ≡ map (on old admitted) calls
+      pub built : Sound law old → (books : List Account) → on old AllBuilt (held old) books
           → on old AllBuilt (held new) (on old all-booked books calls)
 
-    -- The account theorem: after any list of calls to a fresh calculator, refused ones included, each of the sixteen registers
-    -- holds a valid divisor that settles the account drawn up for it.
-    abbrev pub Settled : Law → List Call → Calculator F M → Calculator F M → Type 0
-    Settled law calls old new = Sound law old → Fresh old → on old AllSettle (held new) (on old accounts calls)
+    -- The account theorem, for any list of calls to a fresh calculator: they are refused as their arguments, the field and the curve
+    -- show, and after them each of the sixteen registers holds a valid divisor that settles the account drawn up for it.
+    pub record Settled (law : Law) (calls : List Call) (old new : Calculator F M) (answers : List Answer) : Type 0 where
+      pub refused : Sound law old → Fresh old → map verdict answers ≡ map (on old admitted) calls
+      pub settled : Sound law old → Fresh old → on old AllSettle (held new) (on old accounts calls)
 
 -- Two calculators on fields of one meaning and on the same curve.
 pub record SameModel {F G M N : Type 0} (field-1 : Ghosts F) (field-2 : Ghosts G) (c : Calculator F M) (d : Calculator G N) : Type 0 where

@@ -91,6 +91,12 @@ said (Show a) r = shown r
 abbrev pub reply : Arithmetic → Curve → List Divisor → Call → Answer
 reply K C rs call = said call (given K C rs call)
 
+-- Whether an answer is a refusal, and which.
+abbrev pub verdict : Answer → Result (Unit {0}) CallRefusal
+verdict (Refused e) = Err e
+verdict (Shown D) = Ok tt
+verdict Done = Ok tt
+
 -- One call after another.
 
 abbrev pub nexts : Arithmetic → Curve → List Divisor → List Call → List Divisor

@@ -1,7 +1,8 @@
 // The calculator and its calls.
+ghost use mathlib.Core.List.{[], _∷_};
 ghost use mathlib.Core.Path.{_≡_};
 ghost use Rattle.calculator.specs.Calls.{nothing, said};
-ghost use Rattle.calculator.specs.Calculators.{calls-of, answers-of, Fresh, Sound, gives, Left, Accounted, LeftAll, Settled};
+ghost use Rattle.calculator.specs.Calculators.{calls-of, answers-of, Fresh, Sound, gives, Left, LeftAll, Accounted, Settled};
 use crate::call::Answer;
 use crate::call::Call;
 use crate::call::CallRefusal;
@@ -104,7 +105,7 @@ impl<F: Field, M: Method<F>> Calculator<F, M> {
     pub fn send(&mut self, call: Call) -> Answer
         ensures answer { λ r. ⌜ (Sound F·Field (M·Method .answers) (now (self .entry)) → r ≡ said call (gives F·Field (now (self .entry)) call)) ⌝ }
         ensures left { λ _. ⌜ Left F·Field (M·Method .answers) call (now (self .entry)) (now (self .exit)) ⌝ }
-        ensures accounted { λ _. ⌜ Accounted F·Field (M·Method .answers) call (now (self .entry)) (now (self .exit)) ⌝ }
+        ensures accounted { λ r. ⌜ Accounted F·Field (M·Method .answers) (call ∷ []) (now (self .entry)) (now (self .exit)) (r ∷ []) ⌝ }
     {
         match call {
             Call::Enter(target, divisor) => done(self.enter(target, divisor)),
@@ -119,7 +120,8 @@ impl<F: Field, M: Method<F>> Calculator<F, M> {
     pub fn send_all(&mut self, exchanges: &mut [Exchange])
         ensures calls { λ _. ⌜ calls-of (now (exchanges .exit)) ≡ calls-of (now (exchanges .entry)) ⌝ }
         ensures left { λ _. ⌜ LeftAll F·Field (M·Method .answers) (calls-of (now (exchanges .entry))) (now (self .entry)) (now (self .exit)) (answers-of (now (exchanges .exit))) ⌝ }
-        ensures settled { λ _. ⌜ Settled F·Field (M·Method .answers) (calls-of (now (exchanges .entry))) (now (self .entry)) (now (self .exit)) ⌝ }
+        ensures accounted { λ _. ⌜ Accounted F·Field (M·Method .answers) (calls-of (now (exchanges .entry))) (now (self .entry)) (now (self .exit)) (answers-of (now (exchanges .exit))) ⌝ }
+        ensures settled { λ _. ⌜ Settled F·Field (M·Method .answers) (calls-of (now (exchanges .entry))) (now (self .entry)) (now (self .exit)) (answers-of (now (exchanges .exit))) ⌝ }
     {
         for exchange in exchanges.iter_mut() {
             exchange.answer = self.send(exchange.call);

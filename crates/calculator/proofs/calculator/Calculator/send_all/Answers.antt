@@ -3,7 +3,7 @@ use mathlib.Core.Path.{refl}
 use native.Mathlib.Omega.{arith}
 use lib.ListN.{length}
 use Rattle.calculator.proofs.Loops.{none-yet, one-more, all-done}
-use Rattle.calculator.proofs.Runs.{settled}
+use Rattle.calculator.proofs.Runs.{accounted-all, settled}
 use Rattle.calculator.proofs.calculator.Calculator.send_all.Needs as need
 
 pub loop-exchange-holds : need.loop-exchange-holds
@@ -18,4 +18,5 @@ pub returns : need.returns
 returns g c =
     let end : length (c .loop-exchange .exchanges) ≤ c .loop-exchange .exchange-index = omega arith in
     let left = all-done end (c .loop-exchange .inv) in
-    record { calls = c .loop-exchange .inv .calls; left = left; settled = settled left }
+    let law = accounted-all left in
+    record { calls = c .loop-exchange .inv .calls; left = left; accounted = law; settled = settled law }
