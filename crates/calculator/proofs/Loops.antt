@@ -53,9 +53,9 @@ module _ {F M : Type 0} {field : Ghosts F} {law : Law} {old : Calculator F M} wh
         let gives-on : Model F → Result Divisor CallRefusal = λ m. given (field .meaning (m .field)) (m .curve) (held mid) this in
         let rest : drop i (map call start) ≡ this ∷ drop (i + 1) (map call start) = rw (← so-far .calls) (left-map call xs i d lt) in
         let answer-is : Sound field law old → answer x ≡ on field old reply (held mid) this =
-        λ sound. said-so (sound-kept (so-far .model) sound) ∙ ap (λ m. said this (gives-on m)) (so-far .model) in
+            λ sound. said-so (sound-kept (so-far .model) sound) ∙ ap (λ m. said this (gives-on m)) (so-far .model) in
         let held-is : Sound field law old → held new ≡ on field old next (held mid) this =
-        λ sound. left .registers (sound-kept (so-far .model) sound) ∙ ap (λ m. posted (held mid) this (gives-on m)) (so-far .model) in
+            λ sound. left .registers (sound-kept (so-far .model) sound) ∙ ap (λ m. posted (held mid) this (gives-on m)) (so-far .model) in
         record {
           calls = map-set-same call xs i x d same ∙ so-far .calls;
           model = left .model ∙ so-far .model;
@@ -72,7 +72,7 @@ module _ {F M : Type 0} {field : Ghosts F} {law : Law} {old : Calculator F M} wh
         let long : length (map answer xs) ≤ i = rw length-map le in
         let short : length (map call start) ≤ i = rw (← so-far .calls, length-map) le in
         let held-is : Sound field law old → held new ≡ on field old nexts (held old) (map call start) =
-        λ sound. rw (drop-all i (map call start) short) at (so-far .registers sound) in
+            λ sound. rw (drop-all i (map call start) short) at (so-far .registers sound) in
         record {
           model = so-far .model;
           answered = λ sound. rw (take-all i (map answer xs) long, drop-all i (map call start) short, append-nil) at (so-far .answered sound);

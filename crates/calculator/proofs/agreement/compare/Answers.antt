@@ -11,12 +11,11 @@ loop-comparison-holds g c = (none-yet, none-yet)
 
 pub loop-comparison-again : need.loop-comparison-again
 loop-comparison-again g c =
-    let more : c .loop-comparison .comparison-index < length (c .loop-comparison .comparisons) = omega arith in (
-      one-more _ _ more (c .loop-comparison .inv .0) refl
-          (c .send-comparison .ensures .answer) (c .send-comparison .ensures .left),
-      one-more _ _ more (c .loop-comparison .inv .1) refl
-          (c .send-comparison-in-loop-comparison .ensures .answer) (c .send-comparison-in-loop-comparison .ensures .left),
-    )
+    let more : c .loop-comparison .comparison-index < length (c .loop-comparison .comparisons) = omega arith in
+    (one-more _ _ more (c .loop-comparison .inv .0) refl
+    (c .send-comparison .ensures .answer) (c .send-comparison .ensures .left),
+    one-more _ _ more (c .loop-comparison .inv .1) refl
+    (c .send-comparison-in-loop-comparison .ensures .answer) (c .send-comparison-in-loop-comparison .ensures .left))
 
 pub returns : need.returns
 returns g c =
