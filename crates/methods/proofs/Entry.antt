@@ -1,6 +1,6 @@
 -- What the entry of a divisor answers, by what its tests say; and what a method answers to valid divisors.
 use mathlib.Core.Path.{_≡_, _∙_, ap}
-use mathlib.Core.Bool.{Bool, true, false, _&&_}
+use mathlib.Core.Bool.{Bool, true, false, cond, _&&_}
 use native.Mathlib.Omega.{arith}
 use Rattle.std.specs.declared.result.Result.the-variants.{Ok, Err}
 use Rattle.fields.specs.Arithmetic.{Arithmetic}
@@ -11,27 +11,34 @@ use Rattle.methods.specs.Divisors.{shaped, linear-codes, on-curve, entered, Va
 use Rattle.methods.specs.Sums.{plus, twice}
 use Rattle.methods.specs.Methods.{after, added, doubled}
 
+-- the two answers of a choice
+pub when-true : {A : Type 0} {b : Bool} (x y : A) → true ≡ b → x ≡ cond b x y
+when-true x y e = ap (λ b. cond b x y) e
+
+pub when-false : {A : Type 0} {b : Bool} (x y : A) → false ≡ b → y ≡ cond b x y
+when-false x y e = ap (λ b. cond b x y) e
+
 module _ (K : Arithmetic) (C : Curve) (D : Divisor) where
   abbrev codes : Bool
   codes = linear-codes K (D .u) && linear-codes K (D .v)
 
   pub not-shaped : false ≡ shaped D → Err Shape ≡ entered K C D
   unfolding entered
-  not-shaped s = grind (arith, s)
+  not-shaped s = when-false _ _ s
 
   module _ (s : true ≡ shaped D) where
     pub not-codes : false ≡ codes → Err NotACode ≡ entered K C D
     unfolding entered
-    not-codes c = grind (arith, s, c)
+    not-codes c = when-false _ _ c ∙ when-true _ _ s
 
     module _ (c : true ≡ codes) where
       pub not-on-curve : false ≡ on-curve K C D → Err NotOnCurve ≡ entered K C D
       unfolding entered
-      not-on-curve o = grind (arith, s, c, o)
+      not-on-curve o = when-false _ _ o ∙ when-true _ _ c ∙ when-true _ _ s
 
       pub all-passed : true ≡ on-curve K C D → Ok D ≡ entered K C D
       unfolding entered
-      all-passed o = grind (arith, s, c, o)
+      all-passed o = when-true _ _ o ∙ when-true _ _ c ∙ when-true _ _ s
 
   pub accepted-valid : (E : Divisor) → Ok E ≡ entered K C D → Valid K C D
   unfolding entered
