@@ -8,7 +8,10 @@ use std::alloc::AllocError;
 use std::alloc::Global;
 
 // The valid divisors, by degree, u, v and n.
-pub fn valid_divisors<F: Field>(heap: Global, model: &Model<F>) -> Result<Vec<Divisor>, AllocError> {
+pub fn valid_divisors<F: Field>(
+    heap: Global,
+    model: &Model<F>,
+) -> Result<Vec<Divisor>, AllocError> {
     let q = model.field().size();
     let mut found = Vec::new(heap);
     for degree in 0..3u8 {

@@ -3,11 +3,11 @@
 // fields of a few elements. Empty lines and lines that begin with # are passed over.
 use notation::over;
 use notation::parse_field;
-use sums::AllSums;
-use sums::AllSumsTask;
 use std::io;
 use std::io::BufRead;
 use std::io::BufReader;
+use sums::AllSums;
+use sums::AllSumsTask;
 
 mod divisors;
 mod sums;

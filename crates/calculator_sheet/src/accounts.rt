@@ -32,7 +32,12 @@ impl Accounts {
     }
 
     // Draws up the account of a call's target, from the call, the field and the curve alone. A refused call changes none.
-    pub fn draw<F: Field>(&mut self, heap: Global, model: &Model<F>, call: Call) -> Result<(), AllocError> {
+    pub fn draw<F: Field>(
+        &mut self,
+        heap: Global,
+        model: &Model<F>,
+        call: Call,
+    ) -> Result<(), AllocError> {
         if !accepted(model, call) {
             return Ok(());
         }
@@ -81,7 +86,12 @@ impl Accounts {
     }
 
     // The account of a register with each divisor replaced by its negative.
-    fn negated<F: Field>(&self, heap: Global, field: &F, register: u8) -> Result<Vec<Entry>, AllocError> {
+    fn negated<F: Field>(
+        &self,
+        heap: Global,
+        field: &F,
+        register: u8,
+    ) -> Result<Vec<Entry>, AllocError> {
         let mut account = Vec::new(heap);
         if let Some(entries) = self.of.get(register as usize) {
             for entry in entries.iter() {

@@ -40,11 +40,12 @@ impl List {
         let Some(call) = parse_call(text) else {
             return Ok(false);
         };
-        self.calls.push(Comparison {
-            call,
-            first: Answer::Done,
-            second: Answer::Done,
-        })?;
+        self.calls
+            .push(Comparison {
+                call,
+                first: Answer::Done,
+                second: Answer::Done,
+            })?;
         Ok(true)
     }
 }

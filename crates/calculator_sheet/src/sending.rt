@@ -41,7 +41,13 @@ fn on_residues(rt: &LibcRuntime, m: u16, r: Option<u32>, list: List) -> io::Resu
     on_table(rt, m, r, &mut table[0..entries], list)
 }
 
-fn on_table(rt: &LibcRuntime, m: u16, r: Option<u32>, table: &mut [u16], list: List) -> io::Result<()> {
+fn on_table(
+    rt: &LibcRuntime,
+    m: u16,
+    r: Option<u32>,
+    table: &mut [u16],
+    list: List,
+) -> io::Result<()> {
     if let Err(refusal) = Residues::fill(m, table) {
         return println!(rt, "field refused: {refusal}");
     }
@@ -57,7 +63,10 @@ fn on_table(rt: &LibcRuntime, m: u16, r: Option<u32>, table: &mut [u16], list: L
 
 // Makes the two calculators, or prints why the curve is refused.
 fn check<F: Field + Drop>(rt: &LibcRuntime, one: F, other: F, list: List) -> io::Result<()> {
-    match (Model::check(one, draft(list.curve)), Model::check(other, draft(list.curve))) {
+    match (
+        Model::check(one, draft(list.curve)),
+        Model::check(other, draft(list.curve)),
+    ) {
         (Ok(first), Ok(second)) => exchange(rt, first, second, list),
         (Err((_, _, refusal)), _) | (_, Err((_, _, refusal))) => {
             let number = refusal.number();
@@ -85,7 +94,13 @@ fn exchange<F: Field + Drop>(
         show_answers(rt, *comparison)?;
     }
     for register in 0..16 {
-        show_register(rt, register, closed.show(register), plain.show(register), &accounts)?;
+        show_register(
+            rt,
+            register,
+            closed.show(register),
+            plain.show(register),
+            &accounts,
+        )?;
     }
     Ok(())
 }
@@ -149,7 +164,11 @@ fn show_register(
     second: Result<Divisor, CallRefusal>,
     accounts: &Accounts,
 ) -> io::Result<()> {
-    let (Ok(divisor), Ok(other), Some(account)) = (first, second, accounts.of.get(register as usize)) else {
+    let (Ok(divisor), Ok(other), Some(account)) = (
+        first,
+        second,
+        accounts.of.get(register as usize),
+    ) else {
         return Ok(());
     };
     if account.is_empty() {

@@ -67,7 +67,11 @@ fn one_method<F: Field, M: Method<F>>(
     match last {
         Ok(d) => {
             let Divisor { degree, u, v, n } = d;
-            println!(rt, "{name}: {degree} {} {} {} {} {n}", u.x1, u.x0, v.x1, v.x0)?;
+            println!(
+                rt,
+                "{name}: {degree} {} {} {} {} {n}",
+                u.x1, u.x0, v.x1, v.x0
+            )?;
         }
         Err(refusal) => {
             let number = refusal.number();
