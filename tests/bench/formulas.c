@@ -1,7 +1,7 @@
 /* The closed formulas for a sum in plain C, over the residues modulo 8191, for comparison with the program pace: the same
    sequence of sums, with the same tests of validity and of the two conditions. Prints the last divisor and the sums per second.
 
-       cc -O3 -o formulas tests/bench/formulas.c && ./formulas 1000000 */
+       cc -O3 -o formulas tests/bench/formulas.c && ./formulas 8000 */
 #include <stdint.h>
 #include <stdio.h>
 #include <stdlib.h>
@@ -49,7 +49,7 @@ static int sum(quadratic d, quadratic g, quadratic *s) {
 }
 
 int main(int argc, char **argv) {
-    long count = argc > 1 ? atol(argv[1]) : 1000000;
+    long count = argc > 1 ? atol(argv[1]) : 8000;
     m = argc > 2 ? (uint32_t)atol(argv[2]) : 8191;
     inverses[1] = 1;
     for (uint32_t x = 2; x < m; x++) inverses[x] = (uint16_t)((m - m / x * inverses[m % x] % m) % m);
