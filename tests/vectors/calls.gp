@@ -11,7 +11,7 @@ asked = fileopen("crates/calculator_sheet/stdin", "w");
 expected = fileopen("crates/calculator_sheet/stdout", "w");
 note(text) = filewrite(asked, Str("# ", text));
 
-\\ The registers and their accounts: each divisor by its six numbers, with how often it stands there.
+\\ The registers and their accounts: each divisor by its six numbers, with how often it stands there, 2^64 - 1 times at most.
 
 begin(name, field, numbers) =
 {
@@ -22,7 +22,7 @@ begin(name, field, numbers) =
 
 counted(account, six, count) =
 {
-  for(k = 1, #account, if(account[k][1] == six, account[k] = [six, account[k][2] + count]; return(account)));
+  for(k = 1, #account, if(account[k][1] == six, account[k] = [six, min(account[k][2] + count, 2^64 - 1)]; return(account)));
   listput(account, [six, count]); account;
 }
 joined(a, b) = my(r = List()); foreach(a, e, r = counted(r, e[1], e[2])); foreach(b, e, r = counted(r, e[1], e[2])); r;
@@ -103,8 +103,8 @@ chance(name, field, numbers, count) =
   finish();
 }
 note("random lists");
-for(k = 1, 3, chance("residues 7", residues(7), [0, 0, 0, 0, 1], 40); chance("residues 3", residues(3), [1, 1, 2, 0, 2], 40));
-for(k = 1, 2, chance("nine", nine(), [0, 4, 0, 1, 7], 40); chance("pairs 3 2", pairs(3, 2), [5, 1, 0, 2, 3], 40));
+for(k = 1, 4, chance("residues 7", residues(7), [0, 0, 0, 0, 1], 250); chance("residues 3", residues(3), [1, 1, 2, 0, 2], 250));
+for(k = 1, 3, chance("nine", nine(), [0, 4, 0, 1, 7], 250); chance("pairs 3 2", pairs(3, 2), [5, 1, 0, 2, 3], 250));
 note("fields and curves that are refused, and lines that are none");
 filewrite(asked, "on residues 9 | 0 0 0 0 1"); filewrite(expected, "on residues 9 | 0 0 0 0 1"); filewrite(expected, "field refused: 3 is the smallest code that has no inverse");
 filewrite(asked, "on residues 7 | 0 0 0 0 0"); filewrite(expected, "on residues 7 | 0 0 0 0 0"); filewrite(expected, "curve refused 8");
