@@ -1,25 +1,22 @@
 -- The formulas give the sum and the double of valid divisors of degree 2.
 use mathlib.Core.Path.{_≡_, refl, sym, _∙_, ap, subst, subst₂, subst₃}
-use mathlib.Core.Bool.{true, not, _&&_}
+use mathlib.Core.Bool.{true}
 use mathlib.Core.Logic.{_≢_}
 use mathlib.Core.List.{[], _∷_}
 use Prim.Native.Nat.{ℕ}
 use native.Mathlib.Omega.{arith}
-use lib.Dec.{eqb}
 use Rattle.std.proofs.shelf.Ways.{tells}
-use Rattle.algebra.specs.Ring.{Ops, Laws, sub}
+use Rattle.algebra.specs.Ring.{Ops, Laws}
 use Rattle.algebra.specs.Field.{Field}
 use Rattle.algebra.specs.Polynomials.{Polynomials}
 use Rattle.algebra.proofs.Reify.{by-facts, _⋆_, terms}
 use Rattle.fields.specs.Arithmetic.{Arithmetic}
 use Rattle.fields.specs.Lawful.{Lawful}
-use Rattle.fields.proofs.Codes.{Code, code-path, codes, codes-laws, field}
-use Rattle.polynomials.specs.Proper.{Listed}
+use Rattle.fields.proofs.Codes.{Code, codes, codes-laws, field}
 use Rattle.polynomials.proofs.Listed.{polynomials}
 use Rattle.polynomials.proofs.Presentation.{presentation}
-use Rattle.mumford.specs.Divisors as mumford
 use Rattle.mumford.specs.Addition.{Sum}
-use Rattle.mumford.specs.ClosedForms.{Sextic, Quadratic, Fractions, Line, Second, sextic, divisor, line-by, lead, sum-fractions, sum-by, twice-divided, double-fractions, double-by}
+use Rattle.mumford.specs.ClosedForms.{Sextic, Quadratic, Fractions, sextic, divisor, line-by, lead, sum-fractions, sum-by, twice-divided, double-fractions, double-by}
 use Rattle.mumford.proofs.ClosedSums.{closed-sum}
 use Rattle.mumford.proofs.ClosedDoubles.{closed-double}
 use Rattle.methods.specs.declared.curve.Curve.{Curve}
@@ -27,8 +24,7 @@ use Rattle.methods.specs.declared.divisor.Divisor.{Divisor}
 use Rattle.methods.specs.Curves.{Accepted}
 use Rattle.methods.specs.Divisors.{Valid}
 use Rattle.methods.specs.Sums.{plus, twice}
-use Rattle.methods.proofs.Curves.{f-of, V-of}
-use Rattle.methods.proofs.Representations.{mumford-of, divisor-from}
+use Rattle.methods.proofs.Curves.{V-of}
 use Rattle.methods.proofs.Additions.{divisor-is-plus}
 use Rattle.closed_formulas.specs.Formulas.{operations, sextic-letters, letters, quadratic, applicable, of-degree-2, sum-letters, double-letters}
 use Rattle.closed_formulas.proofs.Representations.{numbers, Coded, accepted-coded, of-codes, of-codes-mumford, sextic-codes, sextic-codes-is}

@@ -1,36 +1,29 @@
 -- Which divisors of degree 2 are valid, by their letters: those for which f − v² divided by u leaves nothing.
 use mathlib.Core.Path.{_≡_, refl, sym, _∙_, ap, subst, subst₂}
 use mathlib.Core.Bool.{Bool, true, false, _&&_}
-use Prim.Native.Nat.{ℕ, _<_}
+use Prim.Native.Nat.{ℕ}
 use native.Mathlib.Omega.{arith}
 use lib.Dec.{eqb}
-use lib.IntN.{pos}
-use Rattle.std.proofs.shelf.Signed.{ints}
 use Rattle.std.proofs.shelf.Tests.{and-from, and-parts, eqb-true, eq-eqb, false≢true}
 use Rattle.std.proofs.shelf.Ways.{tells, same-from-decides}
 use Rattle.std.specs.declared.result.Result.{Result}
 use Rattle.std.specs.declared.result.Result.the-variants.{Ok, Err}
-use Rattle.algebra.specs.Ring.{Ops}
 use Rattle.algebra.specs.Field.{Field}
 use Rattle.algebra.specs.Polynomials.{Polynomials}
 use Rattle.fields.specs.Arithmetic.{Arithmetic}
 use Rattle.fields.specs.Lawful.{Lawful}
 use Rattle.fields.proofs.Codes.{Code, code-path, codes, field}
-use Rattle.polynomials.specs.Proper.{Listed}
 use Rattle.polynomials.proofs.Listed.{polynomials}
 use Rattle.polynomials.proofs.Presentation.{presentation}
-use Rattle.mumford.specs.Functions.{Represents}
 use Rattle.mumford.specs.Divisors as mumford
 use Rattle.mumford.specs.ClosedForms.{Sextic, Quadratic, Quotient, sextic, divisor, quotient}
-use Rattle.mumford.proofs.ClosedDivisors as D
 use Rattle.mumford.proofs.ClosedValidity as V
 use Rattle.methods.specs.declared.curve.Curve.{Curve}
 use Rattle.methods.specs.declared.divisor.Divisor.{Divisor}
 use Rattle.methods.specs.declared.divisor.DivisorRefusal.{DivisorRefusal}
 use Rattle.methods.specs.Divisors.{entered, Valid}
-use Rattle.methods.proofs.Curves.{f-of}
-use Rattle.methods.proofs.Shapes.{Shaped, divisor-of-polynomials}
-use Rattle.methods.proofs.Representations.{mumford-of, valid-shaped, valid-mumford, divisor-from, from-valid}
+use Rattle.methods.proofs.Shapes.{divisor-of-polynomials}
+use Rattle.methods.proofs.Representations.{valid-shaped, valid-mumford, divisor-from, from-valid}
 use Rattle.methods.proofs.Entry.{accepted-valid}
 use Rattle.closed_formulas.specs.Formulas.{operations, sextic-letters, letters, exact, accepted, has-letters, of-degree-2}
 use Rattle.closed_formulas.proofs.Representations.{numbers, Coded, of-codes, of-codes-shaped, of-codes-mumford, sextic-codes, sextic-codes-is}

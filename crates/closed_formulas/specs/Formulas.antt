@@ -12,7 +12,6 @@ use Rattle.fields.specs.Arithmetic.{Arithmetic}
 use Rattle.mumford.specs.ClosedForms.{Sextic, Quadratic, Fractions, Line, Quotient, Second, lead, line-by, sum-fractions, sum-by, twice-divided, double-fractions, double-by}
 use Rattle.methods.specs.declared.curve.Curve.{Curve}
 use Rattle.methods.specs.declared.divisor.Divisor.{Divisor}
-use Rattle.methods.specs.declared.divisor.DivisorRefusal.{DivisorRefusal}
 use Rattle.methods.specs.Divisors.{linear-codes, entered}
 use Rattle.methods.specs.Methods.{Law}
 

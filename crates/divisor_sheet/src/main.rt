@@ -5,11 +5,11 @@
 use notation::over;
 use notation::parse_field;
 use parse::lines;
-use sums::Sums;
-use sums::SumsTask;
 use std::io;
 use std::io::BufRead;
 use std::io::BufReader;
+use sums::Sums;
+use sums::SumsTask;
 
 mod parse;
 mod sums;

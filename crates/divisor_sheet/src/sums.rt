@@ -54,15 +54,28 @@ pub impl FieldTask for Sums as SumsTask {
 }
 
 // Whether the divisors are valid, their sum, and the double and the negative of the first.
-fn report<F: Field>(rt: &LibcRuntime, model: &Model<F>, first: Divisor, second: Divisor) -> io::Result<()> {
+fn report<F: Field>(
+    rt: &LibcRuntime,
+    model: &Model<F>,
+    first: Divisor,
+    second: Divisor,
+) -> io::Result<()> {
     let field = model.field();
     let curve = model.curve();
     let valid = entered(field, curve, first);
     judge(rt, "first", valid)?;
     judge(rt, "second", entered(field, curve, second))?;
-    show(rt, "sum", ByPolynomialsMethod::add(field, curve, first, second))?;
+    show(
+        rt,
+        "sum",
+        ByPolynomialsMethod::add(field, curve, first, second),
+    )?;
     if valid.is_ok() {
-        show(rt, "double", ByPolynomialsMethod::double(field, curve, first))?;
+        show(
+            rt,
+            "double",
+            ByPolynomialsMethod::double(field, curve, first),
+        )?;
         show(rt, "negative", Ok(negative(field, first)))?;
     }
     Ok(())
@@ -83,7 +96,11 @@ fn show(rt: &LibcRuntime, name: &str, answer: Result<Divisor, DivisorRefusal>) -
     match answer {
         Ok(d) => {
             let Divisor { degree, u, v, n } = d;
-            println!(rt, "{name} {degree} {} {} {} {} {n}", u.x1, u.x0, v.x1, v.x0)
+            println!(
+                rt,
+                "{name} {degree} {} {} {} {} {n}",
+                u.x1, u.x0, v.x1, v.x0
+            )
         }
         Err(refusal) => {
             let number = refusal.number();

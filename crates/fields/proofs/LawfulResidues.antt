@@ -99,8 +99,7 @@ pub first-told : (m a : ℕ) → Taken m → without-inverse m ≡ Some a
 unfolding without-inverse
 first-told m a bounds e =
     let many : 1 < m = omega (arith, bounds .least) in
-    let least = answered-least m (m - 1) 1 a e in
-    (
+    let least = answered-least m (m - 1) 1 a e in (
       least .from,
       omega (arith, least .within),
       λ b i. least .bad (ap (λ v. (a * v) % m) (inverse-is m many a b i) ∙ i .1),

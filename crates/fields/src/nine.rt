@@ -73,5 +73,9 @@ pub impl Field for Nine as NineField {
 fn entry(table: &[[u8; 9]; 9], a: u32, b: u32) -> u32
     ensures { λ r. ⌜ r ≡ entry-of (now (table .entry)) a b ⌝ }
 {
-    if a < 9 && b < 9 { table[a as usize][b as usize] as u32 } else { 0 }
+    if a < 9 && b < 9 {
+        table[a as usize][b as usize] as u32
+    } else {
+        0
+    }
 }

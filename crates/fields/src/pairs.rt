@@ -62,8 +62,14 @@ pub impl<F: Field> Field for Pairs<F> as PairsField {
             return 0;
         }
         let square = self.below.product(a / q, b / q);
-        let x = self.below.sum(self.below.product(a % q, b % q), self.below.product(square, self.r));
-        let y = self.below.sum(self.below.product(a % q, b / q), self.below.product(a / q, b % q));
+        let x = self.below.sum(
+            self.below.product(a % q, b % q),
+            self.below.product(square, self.r),
+        );
+        let y = self.below.sum(
+            self.below.product(a % q, b / q),
+            self.below.product(a / q, b % q),
+        );
         joined(q, x, y)
     }
 

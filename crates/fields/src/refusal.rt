@@ -50,8 +50,14 @@ pub impl fmt::Display for FieldRefusal as FieldRefusalDisplay {
     fn fmt<W: fmt::Write>(&self, f: &mut fmt::Formatter<W>) -> fmt::Result {
         match self {
             FieldRefusal::Modulus => write!(f, "the modulus is even, below 3 or above 8191"),
-            FieldRefusal::TooManyElements => write!(f, "the field below has more than 255 elements"),
-            FieldRefusal::TableLength => write!(f, "the table has not as many entries as the modulus says"),
+            FieldRefusal::TooManyElements => write!(
+                f,
+                "the field below has more than 255 elements"
+            ),
+            FieldRefusal::TableLength => write!(
+                f,
+                "the table has not as many entries as the modulus says"
+            ),
             FieldRefusal::NotACode => write!(f, "r is no code of the field below"),
             FieldRefusal::NoInverse(a) => write!(f, "{a} is the smallest code that has no inverse"),
             FieldRefusal::Square => write!(f, "r is a square in the field below"),

@@ -1,6 +1,6 @@
 -- What the calls of a composition give together: each lemma takes what the calls in a row promise and ends in what the
 -- function promises.
-use mathlib.Core.Path.{_≡_, refl, sym, _∙_, ap, ap₂}
+use mathlib.Core.Path.{_≡_, refl, ap}
 use mathlib.Core.List.{List, [], _∷_}
 use Prim.Native.Nat.{ℕ, _+_, _-_, _≤_}
 use native.Mathlib.Omega.{arith}
@@ -9,8 +9,8 @@ use Rattle.algebra.specs.Ring.{Ops, Laws}
 use Rattle.algebra.proofs.Reify.{by-ring, terms}
 use Rattle.fields.specs.Arithmetic.{Arithmetic}
 use Rattle.fields.specs.Lawful.{Lawful}
-use Rattle.polynomials.specs.Polynomial.{Polynomial, sum, product, quotient, remainder, gcd}
-use Rattle.polynomials.specs.Proper.{Proper, Listed}
+use Rattle.polynomials.specs.Polynomial.{sum, product, quotient, remainder}
+use Rattle.polynomials.specs.Proper.{Listed}
 use Rattle.polynomials.specs.Ten.{value, Is, Product, Combines}
 use Rattle.polynomials.proofs.Lengths.{sum-length}
 use Rattle.polynomials.proofs.Listed.{list-path, product-proper, polynomials}

@@ -1,7 +1,6 @@
 -- What the entry of a divisor answers, by what its tests say; and what a method answers to valid divisors.
-use mathlib.Core.Path.{_≡_, sym, _∙_, ap}
+use mathlib.Core.Path.{_≡_, _∙_, ap}
 use mathlib.Core.Bool.{Bool, true, false, cond, _&&_}
-use Prim.Native.Nat.{ℕ}
 use native.Mathlib.Omega.{arith}
 use Rattle.std.specs.declared.result.Result.the-variants.{Ok, Err}
 use Rattle.fields.specs.Arithmetic.{Arithmetic}
@@ -12,18 +11,12 @@ use Rattle.methods.specs.Divisors.{shaped, linear-codes, on-curve, entered, Va
 use Rattle.methods.specs.Sums.{plus, twice}
 use Rattle.methods.specs.Methods.{after, added, doubled}
 
+-- the two answers of a choice
 pub when-true : {A : Type 0} {b : Bool} (x y : A) → true ≡ b → x ≡ cond b x y
 when-true x y e = ap (λ b. cond b x y) e
 
 pub when-false : {A : Type 0} {b : Bool} (x y : A) → false ≡ b → y ≡ cond b x y
 when-false x y e = ap (λ b. cond b x y) e
-
--- whatever the three tests say, an accepted divisor is the one that was given
-given : (s c o : Bool) (D E : Divisor) → Ok E ≡ cond s (cond c (cond o (Ok D) (Err NotOnCurve)) (Err NotACode)) (Err Shape) → E ≡ D
-given true true true D E e = cc
-given true true false D E e = let z : _≡_ {A = ℕ} 0 1 = cc in absurd (omega arith)
-given true false o D E e = let z : _≡_ {A = ℕ} 0 1 = cc in absurd (omega arith)
-given false c o D E e = let z : _≡_ {A = ℕ} 0 1 = cc in absurd (omega arith)
 
 module _ (K : Arithmetic) (C : Curve) (D : Divisor) where
   abbrev codes : Bool
@@ -47,12 +40,9 @@ module _ (K : Arithmetic) (C : Curve) (D : Divisor) where
       unfolding entered
       all-passed o = when-true _ _ o ∙ when-true _ _ c ∙ when-true _ _ s
 
-  accepted-given : (E : Divisor) → Ok E ≡ entered K C D → E ≡ D
-  unfolding entered
-  accepted-given E e = given (shaped D) codes (on-curve K C D) D E e
-
   pub accepted-valid : (E : Divisor) → Ok E ≡ entered K C D → Valid K C D
-  accepted-valid E e = sym e ∙ ap Ok (accepted-given E e)
+  unfolding entered
+  accepted-valid E e = grind (arith, e)
 
 -- What a method answers to valid divisors.
 

@@ -1,4 +1,5 @@
--- Ten numbers that end in zeros are read as the numbers before them.
+-- Ten numbers that end in zeros are read as the numbers before them; u and v as they are read from a divisor's numbers, and
+-- how long they are.
 use mathlib.Core.Path.{_≡_, refl, sym, ap, ap₂}
 use mathlib.Core.Logic.{_≢_}
 use mathlib.Core.List.{List, [], _∷_, _++_, map}

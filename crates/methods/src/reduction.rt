@@ -78,13 +78,13 @@ fn lift<F: Field>(field: &F, curve: Curve, c: Composition) -> Polynomial
     if places(field, c.u) == 5 {
         return c.v;
     }
-    let big = root(field, curve);
+    let part = root(field, curve);
     if c.n_plus_one == 0 {
-        let (_, r) = divide(field, sum(field, c.v, big), c.u);
-        sum(field, negative(field, big), r)
+        let (_, r) = divide(field, sum(field, c.v, part), c.u);
+        sum(field, negative(field, part), r)
     } else {
-        let (_, r) = divide(field, difference(field, c.v, big), c.u);
-        sum(field, big, r)
+        let (_, r) = divide(field, difference(field, c.v, part), c.u);
+        sum(field, part, r)
     }
 }
 

@@ -9,7 +9,7 @@ use crate::curve::Curve;
 
 // Sums are well defined: V is the polynomial part of the square root of f, a composite does not depend on the choice of its
 // cofactors, and what a step makes of one is valid, and so are sums, doubles and negatives.
-pub fn sums_stand() -> u8
+pub fn sums_stand()
     ensures root { λ _. ⌜ ((K : Arithmetic) (C : Curve) → Root-part K C) ⌝ }
     ensures composition { λ _. ⌜ ((K : Arithmetic) (C : Curve) → Composition-well-defined K C) ⌝ }
     ensures composites { λ _. ⌜ ((K : Arithmetic) (C : Curve) → Composites-fair K C) ⌝ }
@@ -17,13 +17,9 @@ pub fn sums_stand() -> u8
     ensures sums { λ _. ⌜ ((K : Arithmetic) (C : Curve) → Sums-valid K C) ⌝ }
     ensures doubles { λ _. ⌜ ((K : Arithmetic) (C : Curve) → Doubles-valid K C) ⌝ }
     ensures negatives { λ _. ⌜ ((K : Arithmetic) (C : Curve) → Negatives-valid K C) ⌝ }
-{
-    0
-}
+{}
 
 // The sums that are worked by hand are those of the definitions.
-pub fn worked_sums_stand() -> u8
+pub fn worked_sums_stand()
     ensures { λ _. ⌜ all-right cases ≡ true ⌝ }
-{
-    0
-}
+{}

@@ -1,11 +1,10 @@
 -- The reduction step of the closed formulas: where the composite of two divisors is [u1·u2; v2 + s·u2; −1], the u′ and v′ that
 -- meet the equations of the formulas are those of the sum, and n′ is 0.
-use mathlib.Core.Path.{_≡_, refl, sym, _∙_, ap, ap₂}
+use mathlib.Core.Path.{_≡_, refl, sym, _∙_, ap}
 use mathlib.Core.List.{List, [], _∷_}
 use Prim.Native.Nat.{pred, _≤_, _<_}
 use native.Mathlib.Omega.{arith}
 use lib.IntN.{pos, _-ℤ_}
-use Rattle.std.proofs.shelf.Signed.{ints}
 use Rattle.algebra.specs.Ring.{Ops, Laws, sub}
 use Rattle.algebra.specs.Field.{Field}
 use Rattle.algebra.specs.Divisibility.{Divides, Congruent}
@@ -18,8 +17,8 @@ use Rattle.algebra.proofs.PolynomialRing as A
 use Rattle.algebra.proofs.Size as Z
 use Rattle.algebra.proofs.Constants as N
 use Rattle.algebra.proofs.Rows as R
-use Rattle.mumford.specs.Divisors.{Divisor, degree, InRange, Valid}
-use Rattle.mumford.specs.Addition.{Composed, plain, Reduced, Sum, reduced}
+use Rattle.mumford.specs.Divisors.{Divisor, degree, Valid}
+use Rattle.mumford.specs.Addition.{Composed, plain, Sum, reduced}
 use Rattle.mumford.specs.ClosedForms.{Sextic, Quadratic, Line, sextic, divisor, lead, line, remaining, sum-a, sum-b}
 use Rattle.mumford.proofs.Composed as C
 use Rattle.mumford.proofs.ClosedQuotients.{u-at, v-at, letters}

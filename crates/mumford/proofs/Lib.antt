@@ -20,12 +20,10 @@ pub mod Norm
 pub mod Growth
 pub mod Lines
 pub mod Degrees
-pub mod Root
 pub mod Remainders
 pub mod Composed
 pub mod Choice
 pub mod Reduced
-pub mod Existence
 pub mod Addition
 pub mod Settled
 pub mod Settling

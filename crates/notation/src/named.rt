@@ -51,7 +51,12 @@ pub fn over<T: FieldTask + Drop>(rt: &LibcRuntime, named: Named, task: T) -> io:
 }
 
 // The task over the residues modulo m, or over the pairs with t² = r on them.
-fn over_residues<T: FieldTask + Drop>(rt: &LibcRuntime, m: u16, r: Option<u32>, task: T) -> io::Result<()> {
+fn over_residues<T: FieldTask + Drop>(
+    rt: &LibcRuntime,
+    m: u16,
+    r: Option<u32>,
+    task: T,
+) -> io::Result<()> {
     let mut table = [0; 8191];
     let entries = (m as usize).min(8191);
     on_table(rt, m, r, &mut table[0..entries], task)

@@ -1,3 +1,4 @@
+-- The answer is that of the double's formula, on each way through the tests.
 use mathlib.Core.Path.{sym, _∙_}
 use Rattle.closed_formulas.proofs.Representations.{accepted-coded}
 use Rattle.closed_formulas.proofs.Validity.{test-goes-on, test-ends}

@@ -1,3 +1,4 @@
+-- The test of the letters and of the remainder finds the valid divisors of degree 2.
 use mathlib.Core.Path.{sym, _∙_}
 use Rattle.closed_formulas.proofs.Representations.{accepted-coded}
 use Rattle.closed_formulas.proofs.Validity.{test-goes-on, test-ends}

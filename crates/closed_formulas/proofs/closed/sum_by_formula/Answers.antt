@@ -1,3 +1,4 @@
+-- The answer is that of the sum's formula, on each way through the tests.
 use mathlib.Core.Path.{sym, _∙_}
 use Rattle.closed_formulas.proofs.Roads.{sum-not-first, sum-not-second, sum-not-applicable, sum-road}
 use Rattle.closed_formulas.proofs.closed.sum_by_formula.Needs as need

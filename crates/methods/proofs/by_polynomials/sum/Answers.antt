@@ -1,3 +1,4 @@
+-- A composite of valid divisors is fair, so that its reduction is the sum.
 use mathlib.Core.Path.{sym, _∙_, ap, subst}
 use Rattle.methods.specs.Sums.{Fair, reduced, plus}
 use Rattle.methods.proofs.Theorems.{composites-fair}

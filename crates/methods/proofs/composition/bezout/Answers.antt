@@ -1,3 +1,4 @@
+-- The two greatest common divisors in a row.
 use Rattle.methods.specs.declared.composition.Cofactors.{Cofactors}
 use Rattle.methods.proofs.Composing.{bezout-is}
 use Rattle.methods.proofs.composition.bezout.Needs as need

@@ -1,3 +1,4 @@
+-- The composite by the cofactors that were found, which is the composite by any.
 use mathlib.Core.Path.{_≡_, _∙_}
 use Prim.Native.Nat.{_+_, _-_}
 use native.Mathlib.Omega.{arith}

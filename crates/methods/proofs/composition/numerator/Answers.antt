@@ -1,3 +1,4 @@
+-- The nine calls of the numerator.
 use Rattle.methods.proofs.Composing.{numerator-is}
 use Rattle.methods.proofs.composition.numerator.Needs as need
 

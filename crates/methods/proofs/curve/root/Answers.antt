@@ -1,4 +1,5 @@
-use mathlib.Core.Path.{_≡_, _∙_, ap, ap₂}
+-- V by its two halved coefficients.
+use mathlib.Core.Path.{_≡_, _∙_, ap₂}
 use mathlib.Core.List.{[], _∷_}
 use Rattle.polynomials.specs.Ten.{value}
 use Rattle.methods.specs.Curves.{half, root}

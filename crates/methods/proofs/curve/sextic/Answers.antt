@@ -1,3 +1,4 @@
+-- The seven coefficients, with zeros behind them.
 use mathlib.Core.List.{[], _∷_}
 use Rattle.methods.specs.Curves.{sextic}
 use Rattle.methods.proofs.Reading.{value-padded}

@@ -1,3 +1,4 @@
+-- Each answer from what the tests before it found.
 use borrow.Author.Needs.{needs}
 use Rattle.methods.proofs.Entry.{not-shaped, not-codes, not-on-curve, all-passed}
 use Rattle.methods.proofs.divisor.entered.Needs as need

@@ -1,4 +1,5 @@
-use mathlib.Core.Path.{_≡_, ap}
+-- v has two coefficients, so that its square is whole.
+use mathlib.Core.Path.{ap}
 use native.Mathlib.Omega.{arith}
 use lib.ListN.{length}
 use Rattle.methods.specs.Divisors.{on-curve}

@@ -1,3 +1,4 @@
+-- Field by field.
 use Rattle.methods.specs.Divisors.{opposite}
 use Rattle.methods.proofs.divisor.negative.Needs as need
 

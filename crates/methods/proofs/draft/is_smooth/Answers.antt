@@ -1,4 +1,5 @@
-use mathlib.Core.Path.{_≡_, _∙_, ap}
+-- One coefficient is what a constant has.
+use mathlib.Core.Path.{_≡_, ap}
 use lib.Dec.{eqb}
 use lib.ListN.{length}
 use Rattle.polynomials.specs.Polynomial.{gcd, derivative}

@@ -1,3 +1,4 @@
+-- The three cases of w.
 use mathlib.Core.Path.{_≡_, sym, _∙_}
 use mathlib.Core.Logic.{_≢_}
 use Prim.Native.Nat.{suc, pred}

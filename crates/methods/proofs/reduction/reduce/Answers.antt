@@ -1,3 +1,4 @@
+-- By whether the composite is in range.
 use mathlib.Core.Path.{_∙_}
 use Rattle.methods.specs.Steps.{composite-of}
 use Rattle.methods.proofs.Reducing.{reduced-in-range, reduced-due}

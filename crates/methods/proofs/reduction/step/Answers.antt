@@ -1,4 +1,5 @@
-use mathlib.Core.Path.{_≡_, ap, subst, sym}
+-- w has a degree of at most 3, so that its square is whole.
+use mathlib.Core.Path.{ap}
 use Prim.Native.Nat.{_≤_}
 use native.Mathlib.Omega.{arith}
 use lib.ListN.{length}

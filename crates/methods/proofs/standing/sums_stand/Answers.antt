@@ -1,3 +1,4 @@
+-- The theorems, one by one.
 use Rattle.methods.proofs.Theorems.{root-part, composition-well-defined, composites-fair, steps-valid, sums-valid, doubles-valid, negatives-valid}
 use Rattle.methods.proofs.standing.sums_stand.Needs as need
 

@@ -1,3 +1,4 @@
+-- The answers are the lawful ones by definition.
 use mathlib.Core.Path.{refl}
 use Rattle.methods.proofs.by_polynomials.ByPolynomials.new.Needs as need
 

@@ -1,3 +1,4 @@
+-- Where both operands pass, they are valid, and their sum is the answer.
 use mathlib.Core.Path.{sym, _∙_, ap}
 use Rattle.std.specs.declared.result.Result.the-variants.{Ok}
 use Rattle.methods.proofs.Entry.{accepted-valid, added-valid}

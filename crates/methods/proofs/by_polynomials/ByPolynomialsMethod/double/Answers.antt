@@ -1,3 +1,4 @@
+-- Where the operand passes, it is valid, and its sum with itself is the answer.
 use mathlib.Core.Path.{sym, _∙_, ap}
 use Rattle.std.specs.declared.result.Result.the-variants.{Ok}
 use Rattle.methods.specs.Sums.{twice}

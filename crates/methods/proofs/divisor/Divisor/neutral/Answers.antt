@@ -1,3 +1,4 @@
+-- The neutral divisor as it is defined, and its validity.
 use mathlib.Core.Path.{refl}
 use Rattle.methods.proofs.Theorems.{neutral-valid}
 use Rattle.methods.proofs.divisor.Divisor.neutral.Needs as need

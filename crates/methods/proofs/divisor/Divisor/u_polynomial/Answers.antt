@@ -1,3 +1,4 @@
+-- By degree: the lower coefficients and a 1, with zeros behind them.
 use mathlib.Core.Path.{_∙_}
 use mathlib.Core.List.{[], _∷_}
 use native.Mathlib.Omega.{arith}

@@ -1,3 +1,4 @@
+-- The two coefficients, with zeros behind them.
 use mathlib.Core.List.{[], _∷_}
 use Rattle.methods.specs.Divisors.{v-of}
 use Rattle.methods.proofs.Reading.{value-padded}
