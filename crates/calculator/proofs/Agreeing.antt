@@ -1,13 +1,12 @@
 -- Fresh calculators on fields of one meaning and the same curve, with lawful methods, agree.
-use mathlib.Core.Path.{_≡_, sym, _∙_, ap}
+use mathlib.Core.Path.{_≡_, sym, _∙_}
 use mathlib.Core.List.{List}
 use Rattle.fields.specs.declared.field.Field.{Ghosts}
 use Rattle.methods.specs.Methods.{Law, LawfulMethod}
 use Rattle.calculator.specs.declared.call.Answer.{Answer}
 use Rattle.calculator.specs.declared.call.Call.{Call}
 use Rattle.calculator.specs.declared.calculator.Calculator.{Calculator}
-use Rattle.calculator.specs.Calls.{nexts, replies}
-use Rattle.calculator.specs.Calculators.{held, arithmetic, Fresh, Sound, LeftAll, SameModel, Agree}
+use Rattle.calculator.specs.Calculators.{held, Fresh, Sound, LeftAll, SameModel, Agree}
 
 module _ {F G M N : Type 0} {field-1 : Ghosts F} {field-2 : Ghosts G} {law-1 law-2 : Law} where
   sound-too : {c : Calculator F M} {d : Calculator G N} → SameModel field-1 field-2 c d → Sound field-1 law-1 c → LawfulMethod law-2

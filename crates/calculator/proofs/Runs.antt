@@ -12,7 +12,7 @@ use Rattle.methods.specs.declared.divisor.Divisor.{Divisor}
 use Rattle.methods.specs.Curves.{Accepted}
 use Rattle.methods.specs.Divisors.{neutral}
 use Rattle.methods.specs.Methods.{Law}
-use Rattle.classes.specs.Settling.{Built, built-neutral}
+use Rattle.classes.specs.Settling.{built-neutral}
 use Rattle.classes.proofs.Built.{built-valid, built-settles}
 use Rattle.calculator.specs.declared.call.Answer.{Answer}
 use Rattle.calculator.specs.declared.call.Call.{Call}

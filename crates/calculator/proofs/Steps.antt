@@ -1,8 +1,8 @@
 -- One call: registers that were built with accounts, whichever these are, are built after it with those that it draws up, and it
 -- is refused as its arguments, the field and the curve show.
 use mathlib.Core.Path.{_≡_, refl, sym, _∙_, ap}
-use mathlib.Core.Bool.{Bool, true, false, cond}
-use mathlib.Core.List.{List, [], _∷_, _++_, map}
+use mathlib.Core.Bool.{true, false, cond}
+use mathlib.Core.List.{List, [], _∷_}
 use mathlib.Core.Logic.{inl, inr}
 use Prim.Native.Nat.{ℕ, _<_}
 use native.Mathlib.Omega.{arith}
@@ -43,7 +43,7 @@ set-both P n xs ys i x a y b long-x long-y here each k lt =
     ]
 
 -- What a call gives, and the account that it draws up: refused alike, or both there, with P between them.
-abbrev pub Match : (Divisor → Account → Type 0) → Result Divisor CallRefusal → Result Account CallRefusal → Type 0
+abbrev Match : (Divisor → Account → Type 0) → Result Divisor CallRefusal → Result Account CallRefusal → Type 0
 Match P (Ok D) (Ok s) = P D s
 Match P (Ok D) (Err e) = ⊥
 Match P (Err e) (Ok s) = ⊥

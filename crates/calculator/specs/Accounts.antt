@@ -39,6 +39,7 @@ drawn K books (Double t a) = account books a ++ account books a
 drawn K books (Negate t a) = map (opposite K) (account books a)
 drawn K books (Show a) = account books a
 
+-- x, where a call is accepted
 abbrev pub when : {X : Type 0} → Result (Unit {0}) CallRefusal → X → Result X CallRefusal
 when (Ok _) x = Ok x
 when (Err e) x = Err e

@@ -1,5 +1,6 @@
--- What the contracts say of a calculator, F being the type of its field and M its method: what a call leaves, what a list of
--- calls leaves, the account theorem, and the agreement of two calculators.
+-- What the contracts say of a calculator: what a call leaves, what a list of calls leaves, the account theorem, and the agreement
+-- of two calculators. F is the type of the field and M that of the method; `field .meaning` is the meaning that F gives its values,
+-- and `law` is what the method answers.
 use mathlib.Core.Path.{_≡_}
 use mathlib.Core.List.{List, map}
 use Rattle.std.specs.declared.result.Result.{Result}

@@ -1,3 +1,4 @@
+-- Closed formulas over a lawful method are lawful, and the polynomial method is: so the two calculators agree.
 use mathlib.Core.Path.{refl}
 use Rattle.closed_formulas.proofs.Lawful.{closed-lawful}
 use Rattle.calculator.proofs.agreement.agree.Needs as need

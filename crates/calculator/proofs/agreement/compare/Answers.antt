@@ -1,3 +1,4 @@
+-- Each turn sends one call to both calculators; after the last, each has been sent the whole list.
 use Prim.Native.Nat.{_<_, _≤_}
 use mathlib.Core.Path.{refl}
 use native.Mathlib.Omega.{arith}

@@ -1,3 +1,4 @@
+-- Both calculators are on their way through the same calls.
 use Rattle.calculator.proofs.Loops.{Halfway}
 use Rattle.calculator.proofs.agreement.compare.Given as given
 

@@ -1,3 +1,4 @@
+-- Each kind of call obeys the law of accounts, since it leaves the registers of its definition.
 use borrow.Author.Needs.{needs}
 use Rattle.calculator.proofs.Runs.{accounted}
 use Rattle.calculator.proofs.calculator.Calculator.send.Needs as need

@@ -1,3 +1,4 @@
+-- Each turn sends one call; from what all of them leave follow the law of accounts and the account theorem.
 use Prim.Native.Nat.{_<_, _≤_}
 use mathlib.Core.Path.{refl}
 use native.Mathlib.Omega.{arith}

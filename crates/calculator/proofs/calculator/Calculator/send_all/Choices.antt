@@ -1,3 +1,4 @@
+-- The calculator is on its way through the calls.
 use Rattle.calculator.proofs.Loops.{Halfway}
 use Rattle.calculator.proofs.calculator.Calculator.send_all.Given as given
 

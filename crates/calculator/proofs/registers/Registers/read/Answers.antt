@@ -1,3 +1,4 @@
+-- A register that is there is read, whatever stands for the others.
 use borrow.Author.Needs.{needs, getD-read}
 use Rattle.calculator.proofs.registers.Registers.read.Needs as need
 
