@@ -1,1 +1,2 @@
 // Commutative algebra for proofs: rings, the ring solver, polynomials. No code: what it holds stands in specs/ and proofs/.
+#![tactic(auto)]

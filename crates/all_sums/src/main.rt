@@ -1,6 +1,8 @@
 // Compares closed formulas over the polynomial method with the polynomial method alone on all sums and doubles of all valid divisors
 // of a curve. A line of standard input is FIELD | f4 f3 f2 f1 f0, where the field is `residues M`, `nine` or `pairs M R`; meant are
 // fields of a few elements. Empty lines and lines that begin with # are passed over.
+#![tactic(auto)]
+
 use notation::{over, parse_field};
 use std::io;
 use std::io::{BufRead, BufReader};

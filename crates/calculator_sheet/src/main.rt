@@ -4,6 +4,8 @@
 // A list begins with a line `on FIELD | f4 f3 f2 f1 f0`, where the field is `residues M`, `nine` or `pairs M R`. Its calls follow, one
 // to a line: `enter REGISTER DIVISOR`, `add TARGET A B`, `double TARGET A`, `negate TARGET A` and `show REGISTER`, where a divisor is
 // its degree, u1, u0, v1, v0 and n. Empty lines and lines that begin with # are passed over.
+#![tactic(auto)]
+
 use list::{List, header};
 use sending::send;
 use std::io;

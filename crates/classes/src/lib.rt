@@ -1,5 +1,7 @@
 // Functions on a curve, their growth at infinity, and accounts: the theorems on divisor classes. No code: each function stands
 // for the theorems on its contract, so that the crate is refused without their proofs.
+#![tactic(auto)]
+
 ghost use Rattle.classes.specs.Theorems.{NeutralSettles, AloneSettles, SumSettles, BuiltSettles, StepsSettle, FunctionsClosed, GrowthAdds, GrowthConjugate, MembersIdeal};
 
 // The neutral divisor settles the empty account, a valid divisor the account of itself alone, and the sum of two valid divisors

@@ -26,7 +26,7 @@ pub struct Fractions {
     pub o: u32,
 }
 
-// s = s1·x + s0, with s·(x² + A·x + B) = s1·x³ + L2·x² + L1·x + typeof.s0.B
+// s = s1·x + s0, with s·(x² + A·x + B) = s1·x³ + L2·x² + L1·x + s0·B
 #[derive(Clone, Copy)]
 pub struct Line {
     pub s1: u32,
@@ -85,7 +85,7 @@ pub fn sum_fractions<F: Field>(field: &F, d1: Quadratic, d2: Quadratic) -> Fract
     }
 }
 
-// s1 = p/r and s0 = o/r, L2 = s0 + typeof.s1.A and L1 = typeof.s0.A + typeof.s1.B
+// s1 = p/r and s0 = o/r, L2 = s0 + s1·A and L1 = s0·A + s1·B
 pub fn slope<F: Field>(field: &F, d2: Quadratic, n: Fractions) -> Line
     ensures { line_of result ≡ slope-of (F.Field.meaning field.now) (quadratic_of d2) (fractions_of n) }
 {
@@ -107,7 +107,7 @@ pub fn lead_inverse<F: Field>(field: &F, s: Line) -> u32
     field.inverse(difference(field, 1, field.product(s.s1, s.s1)))
 }
 
-// c' = −C − L1 + s1·b' − t·a' and e' = −E − typeof.s0.B − t·b', with t = s1·a' − L2
+// c' = −C − L1 + s1·b' − t·a' and e' = −E − s0·B − t·b', with t = s1·a' − L2
 pub fn remaining<F: Field>(field: &F, d2: Quadratic, s: Line, a: u32, b: u32) -> Quadratic
     ensures { quadratic_of result ≡ remaining-of (operations (F.Field.meaning field.now)) (quadratic_of d2) (line_of s) a b }
 {
@@ -123,7 +123,7 @@ pub fn remaining<F: Field>(field: &F, d2: Quadratic, s: Line, a: u32, b: u32) ->
     }
 }
 
-// The sum, where i = 1/M: a' = (−A − s1·(s0 + L2))/M − a, b' = (f4 − B + A² − s1·(L1 + 2C) − typeof.s0.L2)/M − b − a·a'.
+// The sum, where i = 1/M: a' = (−A − s1·(s0 + L2))/M − a, b' = (f4 − B + A² − s1·(L1 + 2C) − s0·L2)/M − b − a·a'.
 pub fn sum_by<F: Field>(
     field: &F,
     curve: Curve,
@@ -182,7 +182,7 @@ pub fn divide_again<F: Field>(field: &F, d: Quadratic, q: Quotient) -> Second
     }
 }
 
-// r = 4·(a·c·e − e² − b·c²), p = 2·(typeof.c.K0 − typeof.e.K1) and o = 2·((a·c − e)·K0 − b·c·K1)
+// r = 4·(a·c·e − e² − b·c²), p = 2·(c·K0 − e·K1) and o = 2·((a·c − e)·K0 − b·c·K1)
 pub fn double_fractions<F: Field>(field: &F, d: Quadratic, t: Second) -> Fractions
     ensures { fractions_of result ≡ double_fractions (operations (F.Field.meaning field.now)) (quadratic_of d) (second_division_of t) }
 {

@@ -1,5 +1,7 @@
 // Tests of the closed formulas. That their answers are sums is proved; which divisors they answer themselves is seen over a
 // method that refuses everything.
+#![tactic(auto)]
+
 mod refusing;
 
 #[cfg(test)]

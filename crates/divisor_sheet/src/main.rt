@@ -2,6 +2,8 @@
 // curve is f4 f3 f2 f1 f0, and a divisor is its degree, u1, u0, v1, v0 and n. The line is printed again, and below it
 // whether D and E are valid, D + E, 2D and -D, or why the line is refused. Empty lines and lines that begin with # are passed
 // over.
+#![tactic(auto)]
+
 use notation::{over, parse_field};
 use parse::lines;
 use std::io;

@@ -1,4 +1,6 @@
 // Finite fields by codes: the interface, and the three fields that come with the product.
+#![tactic(auto)]
+
 pub use field::Field;
 pub use nine::Nine;
 pub use pairs::Pairs;

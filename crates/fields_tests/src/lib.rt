@@ -1,5 +1,7 @@
 // Tests of the fields where no line of the program `judge` comes: tables of another length than the modulus, what a refusal
 // leaves behind, and numbers that are no codes.
+#![tactic(auto)]
+
 #[cfg(test)]
 mod tests {
     use fields::{Field, FieldRefusal, Nine, Pairs, Residues};

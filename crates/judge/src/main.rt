@@ -1,5 +1,7 @@
 // Judges finite fields: reads a request from each line of standard input, makes the field, and prints what it is like, or
 // why it is refused.
+#![tactic(auto)]
+
 use judging::judge;
 use request::parse;
 use std::io;

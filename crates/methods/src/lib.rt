@@ -1,4 +1,6 @@
 // Divisor classes of y² = f(x): curves and models, divisors, and methods that add and double them.
+#![tactic(auto)]
+
 pub use by_polynomials::ByPolynomials;
 pub use curve::{Curve, CurveRefusal};
 pub use divisor::{Divisor, DivisorRefusal, Linear, entered, negative};

@@ -69,7 +69,7 @@ module _ {P : Type 0} {o : Ops P} (L : Laws o) {f u1 v1 u2 v2 d : P} (c : Quotie
       (neg unit ⋆ cross ∷ v2 ⋆ middle ∷ unit ⋆ valid2 ∷ k2 ⋆ second ∷ [])
       (search terms depth 60 fits 100000) refl)
 
-  -- What α and β are to f, with the factor U1-as-U2 in sight.
+  -- What α and β are to f, with the factor U1·U2 in sight.
 
   α_v2 : α · v2 ≡ β · f - U2 · k2 · v1
   α_v2 =

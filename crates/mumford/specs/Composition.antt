@@ -33,7 +33,7 @@ module _ {P : Type 0} (o : Ops P) (f u1 v1 u2 v2 : P) where
     pub valid2 : sub o f (v2 · v2) ≡ u2 · k2
     pub cancel : Regular o d
 
-  -- What characterises v modulo u = U1-as-U2, whatever e1, e2 and e3 are.
+  -- What characterises v modulo u = U1·U2, whatever e1, e2 and e3 are.
   pub record Composite {d : P} (c : Quotients d) (v : P) : Type 0 where
     pub at1 : Congruent o (c.U1 · c.U2) (c.U1 · v) (c.U1 · v2)
     pub at2 : Congruent o (c.U1 · c.U2) (c.U2 · v) (c.U2 · v1)

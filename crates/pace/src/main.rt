@@ -3,6 +3,8 @@
 //
 // Without an argument the sequences are short and their last divisors are printed. With a number N the sequences have N sums, and
 // the sums per second are printed as well.
+#![tactic(auto)]
+
 use notation::{over, parse_field};
 use sequence::Sequence;
 use std::{env, io};

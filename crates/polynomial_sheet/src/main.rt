@@ -2,6 +2,8 @@
 // `nine` or `pairs M R`, and A and B are polynomials by their codes, the lowest coefficient first. The line is printed
 // again, and below it what the library makes of A and B, or why the line is refused. Empty lines and lines that begin with
 // # are passed over.
+#![tactic(auto)]
+
 use notation::{numbers, over, parse_field};
 use polynomials::Polynomial;
 use report::Report;

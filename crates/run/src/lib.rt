@@ -1,4 +1,6 @@
 // Sheets as bytes: the records that a sheet is read as, the stages of a run, and what a run writes in reply.
+#![tactic(auto)]
+
 pub use field::{Base, Chosen, OneOf};
 pub use record::{CallRecord, Front, Record, curve, divisor, divisor_bytes, kind_of, read};
 pub use reply::Reply;

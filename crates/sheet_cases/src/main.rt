@@ -4,6 +4,8 @@
 // lines that begin with # are passed over. A line is printed for each sheet: the number answered; the bytes written, in hexadecimal;
 // `differs` where the two runs differ in the number or in any byte of the output; and `touched` where a byte after the written ones
 // is not as it was.
+#![tactic(auto)]
+
 use case::parse;
 use outcome::{by_closed_formulas, by_polynomials};
 use std::alloc::{AllocError, Global};

@@ -1,4 +1,6 @@
 // Runs the sheet on standard input, and writes what the run answers to standard output.
+#![tactic(auto)]
+
 use run::answer;
 use std::io;
 use std::io::{Read, Write};

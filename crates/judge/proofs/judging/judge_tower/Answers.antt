@@ -12,4 +12,4 @@ returns-in-Ok g c =
     let below : pairs (g.F.Field.meaning c.in-Ok.pairs.below) c.in-Ok.pairs.q c.in-Ok.pairs.r ≡ pairs K K.size c.in-Twice.r =
     rw (made.holds.0, made.holds.1, made.holds.2)
     in
-    two_storeys K _ c.in-Twice.r c.in-Twice.s c.args.tower _ c.in-Twice.is made.answer below c.judge-pairs-in-Ok.ensures
+    two_storeys K _ c.in-Twice.r c.in-Twice.s c.args.tower _ c.in-Twice.is made.answer below c.judge_pairs-in-Ok.ensures

@@ -18,7 +18,7 @@ returns g c L va vb =
     let counted : n ≡ D.n + E.n + (length (value K z.d.codes) - 1) = omega arith in
     let made : Composition = record { u = c.divide.result.0; v = c.divide-3.result.1; n_plus_one = n } in
     let by =
-    composition_is K L D E _ _ c.u-polynomial.ensures c.u-polynomial-2.ensures c.args.curve z few made
+    composition_is K L D E _ _ c.u_polynomial.ensures c.u_polynomial-2.ensures c.args.curve z few made
     _ _ _ _ (c.product.ensures L) (c.product-2.ensures L) (c.divide.ensures.quotient L)
     (c.numerator.ensures L few) (c.divide-2.ensures.quotient L) (c.divide-3.ensures.remainder L) counted
     in

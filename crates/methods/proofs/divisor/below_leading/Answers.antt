@@ -4,12 +4,12 @@ use lib.ListN.{get_or-eq_default}
 use Rattle.polynomials.specs.Ten.{value}
 use Rattle.methods.proofs.divisor.below_leading.Goals as goal
 
-pub returns-then-k-degree-of : goal.returns-then-k-degree-of
-returns-then-k-degree-of g c =
+pub returns-then-k-degree_of : goal.returns-then-k-degree_of
+returns-then-k-degree_of g c =
     let p = value (g.F.Field.meaning c.args.field.now) c.args.p.codes in
-    c.coefficient.ensures ∙ sym (get_or-take _ p c.args.k 0 (omega (arith, c.degree-of.ensures.value)))
+    c.coefficient.ensures ∙ sym (get_or-take _ p c.args.k 0 (omega (arith, c.degree_of.ensures.value)))
 
-pub returns-else-k-degree-of : goal.returns-else-k-degree-of
-returns-else-k-degree-of g c =
+pub returns-else-k-degree_of : goal.returns-else-k-degree_of
+returns-else-k-degree_of g c =
     let p = value (g.F.Field.meaning c.args.field.now) c.args.p.codes in
-    sym (get_or-eq_default (take (length p - 1) p) 0 (omega (arith, length-take (length p - 1) p, c.degree-of.ensures.value)))
+    sym (get_or-eq_default (take (length p - 1) p) 0 (omega (arith, length-take (length p - 1) p, c.degree_of.ensures.value)))

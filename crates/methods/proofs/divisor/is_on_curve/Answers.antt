@@ -8,7 +8,7 @@ pub returns : goal.returns
 unfolding on_curve
 returns g c L =
     let K = g.F.Field.meaning c.args.field.now in
-    let s = (c.product.ensures L).stands (omega (arith, ap length c.v-polynomial-v.ensures, v-short K c.args.d)) in
+    let s = (c.product.ensures L).stands (omega (arith, ap length c.v_polynomial-v.ensures, v-short K c.args.d)) in
     let d = (c.difference.ensures L).stands in
     let r = (c.divide.ensures.remainder L).stands in
     cc

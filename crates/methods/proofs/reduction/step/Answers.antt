@@ -20,4 +20,4 @@ returns g c L fair =
     in
     let few : length (value K c.lift-w.result.codes) ≤ 5 = omega (arith, w-most, ap length w) in
     step_is K C S _ _ _ _ _ _ w (c.turn-u.ensures L few) (c.negative.ensures L) (c.divide.ensures.remainder L)
-    c.infinity.ensures c.from-polynomials.ensures
+    c.infinity.ensures c.from_polynomials.ensures

@@ -22,14 +22,14 @@ returns-in-3 c =
     ap (λ r. whole (square_root r) (after_bytes 2 xs)) c.code.ensures
     ∙ read_bytes 2 3 _ xs refl (grind arith) (grind arith) refl
 
-pub returns-in-Some-split-first-chunk : goal.returns-in-Some-split-first-chunk
-returns-in-Some-split-first-chunk c =
-    let parts = c.in-Some-split-first-chunk.ensures.cases in
+pub returns-in-Some-split_first_chunk : goal.returns-in-Some-split_first_chunk
+returns-in-Some-split_first_chunk c =
+    let parts = c.in-Some-split_first_chunk.ensures.cases in
     read_parts 0 4 _ c.args.sheet.now refl (grind arith) (grind arith) 10 _ _ refl (omega arith) parts.0 parts.1
 
-pub returns-in-None-split-first-chunk : goal.returns-in-None-split-first-chunk
-returns-in-None-split-first-chunk c =
-    read_cut 0 4 _ c.args.sheet.now refl (grind arith) (grind arith) 10 refl c.in-None-split-first-chunk.ensures.cases
+pub returns-in-None-split_first_chunk : goal.returns-in-None-split_first_chunk
+returns-in-None-split_first_chunk c =
+    read_cut 0 4 _ c.args.sheet.now refl (grind arith) (grind arith) 10 refl c.in-None-split_first_chunk.ensures.cases
 
 pub returns-in-Some : goal.returns-in-Some
 returns-in-Some c =

@@ -7,5 +7,5 @@ returns c =
     let size : c.args.n + length c.args.bytes.now - c.args.n ≡ length c.args.bytes.now = omega arith in
     record {
       place = refl;
-      bytes = overwritten_part c.args.output.now _ c.args.bytes.now c.args.n _ size c.copy-from-slice.ensures.after;
+      bytes = overwritten_part c.args.output.now _ c.args.bytes.now c.args.n _ size c.copy_from_slice.ensures.after;
     }

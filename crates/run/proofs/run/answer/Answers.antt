@@ -12,12 +12,12 @@ returns c =
     let output : List ℕ = c.args.output.now in
     let short : length sheet ≤ 4096 = c.if-sheet-gt4096.false in
     let ran : program_bytes sheet ≡ run_bytes sheet = program_taken sheet short in
-    let count : c.zafindoro-run.result ≡ length (run_bytes sheet) =
-    c.zafindoro-run.ensures.answer ∙ by_size_taken sheet output _ _ _ c.told-output short in
+    let count : c.zafindoro_run.result ≡ length (run_bytes sheet) =
+    c.zafindoro_run.ensures.answer ∙ by_size_taken sheet output _ _ _ c.told-output short in
     record {
       count = count ∙ sym (ap length ran);
       bytes =
-          c.zafindoro-run.ensures.output ∙ by_size_taken sheet output _ _ _ c.told-output short
+          c.zafindoro_run.ensures.output ∙ by_size_taken sheet output _ _ _ c.told-output short
           ∙ sym (ap (overwritten output 0) ran);
       room = omega (arith, count, run_room start sheet);
     }

@@ -12,7 +12,7 @@ pub returns : goal.returns
 returns c =
     let lawful : LawfulMethod (closed the_law) = closed_lawful the_law rules_lawful in
     record {
-      answer = c.run-by.ensures.answer lawful;
-      output = c.run-by.ensures.output lawful;
+      answer = c.run_by.ensures.answer lawful;
+      output = c.run_by.ensures.output lawful;
       laws = run_laws c.args.sheet.now;
     }

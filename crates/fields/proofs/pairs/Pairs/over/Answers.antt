@@ -3,12 +3,12 @@ use Rattle.fields.specs.Pairs.{square_below}
 use Rattle.fields.proofs.LawfulPairs.{pairs-judged, root_told, made_lawful}
 use Rattle.fields.proofs.pairs.Pairs.over.Goals as goal
 
-pub returns-then-is-square : goal.returns-then-is-square
-returns-then-is-square g c =
+pub returns-then-is_square : goal.returns-then-is_square
+returns-then-is_square g c =
     let K = g.F.Field.meaning c.args.below in
     let size : c.size-q.result ≡ K.size = c.size-q.ensures in
     let root : square_below K c.args.r K.size ≡ true =
-    sym (ap (square_below K c.args.r) size) ∙ sym c.is-square.ensures ∙ c.if-is-square.true
+    sym (ap (square_below K c.args.r) size) ∙ sym c.is_square.ensures ∙ c.if-is_square.true
     in
     record {
       answer = pairs-judged K c.args.r true (omega arith) (omega arith) root;
@@ -22,7 +22,7 @@ returns g c =
     let K = g.F.Field.meaning c.args.below in
     let size : c.size-q.result ≡ K.size = c.size-q.ensures in
     let none : square_below K c.args.r K.size ≡ false =
-    sym (ap (square_below K c.args.r) size) ∙ sym c.is-square.ensures ∙ c.if-is-square.false
+    sym (ap (square_below K c.args.r) size) ∙ sym c.is_square.ensures ∙ c.if-is_square.false
     in
     record {
       answer = pairs-judged K c.args.r false (omega arith) (omega arith) none;

@@ -9,5 +9,5 @@ unfolding twice
 returns g c L accepted =
     let K = g.F.Field.meaning c.args.field.now in
     let C = c.args.curve in
-    let va = accepted_valid K C c.args.a _ (c.in-ok-entered.ensures L) in
+    let va = accepted_valid K C c.args.a _ (c.in_ok-entered.ensures L) in
     ap Ok (c.sum.ensures L va va) ∙ sym (doubled_valid K C c.args.a va)

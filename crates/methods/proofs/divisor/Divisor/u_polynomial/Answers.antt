@@ -14,8 +14,8 @@ returns-in-1 g c =
     let u = c.args.self.u in
     value_padded K (u.x0 ∷ 1 ∷ []) 8 ∙ u-one K c.args.self c.in-1.is
 
-pub returns-in-default : goal.returns-in-default
-returns-in-default g c =
+pub returns-in_default : goal.returns-in_default
+returns-in_default g c =
     let K = g.F.Field.meaning c.args.field.now in
     let u = c.args.self.u in
     value_padded K (u.x0 ∷ u.x1 ∷ 1 ∷ []) 7 ∙ u-two K c.args.self (omega arith) (omega arith)

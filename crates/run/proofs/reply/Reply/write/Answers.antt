@@ -10,7 +10,7 @@ returns-in-Silent c =
 pub returns-in-Shown : goal.returns-in-Shown
 returns-in-Shown c =
     let front : List ℕ = 16 ∷ c.in-Shown.register ∷ [] in
-    let body : c.divisor-bytes.result ≡ divisor_bytes c.in-Shown.d = c.divisor-bytes.ensures in
+    let body : c.divisor_bytes.result ≡ divisor_bytes c.in-Shown.d = c.divisor_bytes.ensures in
     let fits : c.args.n + 12 ≤ length c.args.output.now = rw c.in-Shown.is at c.requires in
     rw c.in-Shown.is
     (record {
