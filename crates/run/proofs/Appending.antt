@@ -4,10 +4,10 @@ use Rattle.std.proofs.lemmas.List.{take-append-le, drop-append-le}
 use Rattle.run.specs.declared.reply.Reply.TheVariants.{Refused}
 use Rattle.run.specs.Records.{Command, Reading, end, whole, short, unknown, reading}
 use Rattle.run.specs.Progress.{Progress, step, reply_bytes}
-use Rattle.run.specs.Run.{Sheet, first, stopped, records-by, sheet_of, written, reached, run_from}
+use Rattle.run.specs.Run.{Sheet, first, stopped, sheet_of, written, reached, run_from}
 use Rattle.run.specs.Laws.{Whole, behind}
 use Rattle.run.proofs.Reading.{whole_by_size}
-use Rattle.run.proofs.Sheets.{whole_parts, whole_shorter, least_some, end_none, sheet_by, sheet_none}
+use Rattle.run.proofs.Sheets.{records_by, whole_parts, whole_shorter, least_some, end_none, sheet_by, sheet_none}
 
 -- A whole record is read the same with more behind it.
 pub reading-append : (a : List ℕ) (c : Command) (rest b : List ℕ) → reading a ≡ whole c rest → reading (a ++ b) ≡ whole c (rest ++ b)
@@ -35,20 +35,20 @@ append_by a b shorter end e w =
     ap (λ xs. sheet_of (xs ++ b)) none
     ∙ sym (ap (λ xs. joined (sheet_of xs) (sheet_of b)) none ∙ ap (λ s. joined s (sheet_of b)) sheet_none)
 append_by a b shorter (whole c rest) e w =
-    let is : sheet_of a ≡ first c (sheet_of rest) = sheet_by a ∙ ap (records-by sheet_of) e in
+    let is : sheet_of a ≡ first c (sheet_of rest) = sheet_by a ∙ ap (records_by sheet_of) e in
     let less = whole_shorter a c rest e in
     let some = least_some c in
     sheet_by (a ++ b)
-    ∙ ap (records-by sheet_of) (reading-append a c rest b e)
+    ∙ ap (records_by sheet_of) (reading-append a c rest b e)
     ∙ ap (first c) (shorter rest (omega arith) (sym (ap (λ s. s.stop) is) ∙ w))
     ∙ sym (ap (λ s. joined s (sheet_of b)) is)
 append_by a b shorter (short kind) e w =
-    let is : sheet_of a ≡ stopped (reply_bytes (Refused kind 10)) = sheet_by a ∙ ap (records-by sheet_of) e in
+    let is : sheet_of a ≡ stopped (reply_bytes (Refused kind 10)) = sheet_by a ∙ ap (records_by sheet_of) e in
     let stop : reply_bytes (Refused kind 10) ≡ [] = sym (ap (λ s. s.stop) is) ∙ w in
     let z : ◌≡◌ {A = ℕ} 0 1 = cc in
     absurd (omega arith)
 append_by a b shorter (unknown kind) e w =
-    let is : sheet_of a ≡ stopped (reply_bytes (Refused kind 11)) = sheet_by a ∙ ap (records-by sheet_of) e in
+    let is : sheet_of a ≡ stopped (reply_bytes (Refused kind 11)) = sheet_by a ∙ ap (records_by sheet_of) e in
     let stop : reply_bytes (Refused kind 11) ≡ [] = sym (ap (λ s. s.stop) is) ∙ w in
     let z : ◌≡◌ {A = ℕ} 0 1 = cc in
     absurd (omega arith)

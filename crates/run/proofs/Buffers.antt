@@ -1,11 +1,14 @@
 -- Bytes written into a buffer, one row after another.
-use Rattle.std.proofs.Common.{◌≡◌, ℕ, ◌+◌, ◌≤◌, List, [], ◌∷◌, ◌++◌, length, take, drop, sym, refl, ap, ◌∙◌, ap₂, append_assoc, add-zero, add_assoc, arith, length-append, take-append-drop}
+use Rattle.std.proofs.Common.{◌≡◌, ℕ, ◌+◌, ◌≤◌, List, [], ◌∷◌, ◌++◌, length, take, drop, sym, refl, ap, ◌∙◌, ap₂, append_assoc, add-zero, zero-add, add_assoc, arith, length-append, take-append-drop}
 use borrow.Rule.Slice.PartMut.{put_mid}
 use Rattle.std.proofs.lemmas.List.{take_at, drop_at, drop-drop, length-take-le}
 use Rattle.run.specs.Buffers.{overwritten}
 
 pub overwritten-none : (xs : List ℕ) (n : ℕ) → xs ≡ overwritten xs n []
 overwritten-none xs n = rw add-zero (sym (take-append-drop n xs))
+
+pub overwritten_first : (xs bytes : List ℕ) → overwritten xs 0 bytes ≡ bytes ++ drop (length bytes) xs
+overwritten_first xs bytes = ap (λ k. bytes ++ drop k xs) (zero-add (length bytes))
 
 -- A part of the buffer takes the bytes.
 pub overwritten_part : (xs ys bytes : List ℕ) (n k : ℕ) → k ≡ length bytes → ys ≡ bytes → put_mid n k xs ys ≡ overwritten xs n bytes

@@ -42,6 +42,7 @@ module _ (calls : List Call) where
   fresh_holds K C empty = sym (ap (nexts K C sixteen_neutral) empty)
 
   turn_holds : (p : Progress) (c : Command) → Turn p c → Holds p calls → Holds (step p c).after (calls ++ sent p c)
+  unfolding step
   turn_holds _ _ (residues_first m) h = choice_holds refusal_number start 1 (based (residues m)) (fill_answer m m) h h
   turn_holds _ _ nine_first h = none_more start h
   turn_holds _ _ (pairs_next K r) h =

@@ -18,6 +18,7 @@ pub data Turn : Progress → Command → Type 0 where
   none : (p : Progress) (c : Command) → step p c ≡ out_of_turn p c → sent p c ≡ [] → Turn p c
 
 pub turn_of : (p : Progress) (c : Command) → Turn p c
+unfolding step
 turn_of start (modulus m) = residues_first m
 turn_of start nine_elements = nine_first
 turn_of start (square_root r) = none start (square_root r) refl refl

@@ -13,10 +13,10 @@ use Rattle.run.specs.declared.reply.Reply.{Reply}
 use Rattle.run.specs.declared.reply.Reply.TheVariants.{Silent, Shown, Refused}
 use Rattle.run.specs.Records.{Command, whole, reading}
 use Rattle.run.specs.Progress.{Progress, start, based, paired, ready, reply_bytes, replied, step, chosen}
-use Rattle.run.specs.Run.{sheet_of, records-by, reached, run_from, run_bytes}
+use Rattle.run.specs.Run.{sheet_of, reached, run_from, run_bytes}
 use Rattle.run.specs.Laws.{Whole, One, behind, AsIfAbsent}
 use Rattle.run.proofs.Order.{Turn, residues_first, nine_first, pairs_next, curve_on_base, curve_on_pairs, call_last, none, turn_of}
-use Rattle.run.proofs.Sheets.{sheet_by, sheet_none, run_end, run_whole, reading-none}
+use Rattle.run.proofs.Sheets.{records_by, sheet_by, sheet_none, run_end, run_whole, reading-none}
 use Rattle.run.proofs.Appending.{reading-append, behind-append, run_append}
 
 module _ (kind number : ℕ) where
@@ -38,6 +38,7 @@ module _ (kind number : ℕ) where
   choice_stays n p k q (Err w) e = refl
 
   turn_stays : (p : Progress) (c : Command) → Turn p c → (step p c).reply ≡ Refused kind number → (step p c).after ≡ p
+  unfolding step
   turn_stays _ _ (residues_first m) e = choice_stays refusal_number start 1 (based (residues m)) (fill_answer m m) e
   turn_stays _ _ nine_first e = let z : ◌≡◌ {A = ℕ} 0 1 = cc in absurd (omega arith)
   turn_stays _ _ (pairs_next K r) e =
@@ -68,7 +69,7 @@ module _ (p : Progress) (r : List ℕ) (c : Command) (e : reading r ≡ whole c 
 
   pub one-behind : behind p r ≡ (step p c).after
   one-behind =
-      ap (λ s. reached p s.commands) (sheet_by r ∙ ap (records-by sheet_of) e)
+      ap (λ s. reached p s.commands) (sheet_by r ∙ ap (records_by sheet_of) e)
       ∙ ap (λ s. reached (step p c).after s.commands) sheet_none
 
 pub refused_absent : (a r b : List ℕ) (kind number : ℕ) → Whole a → One r → run_from (behind start a) r ≡ 17 ∷ kind ∷ number ∷ []

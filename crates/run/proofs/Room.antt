@@ -11,9 +11,9 @@ use Rattle.calculator.specs.declared.call.Call.TheVariants.{Enter, Add, Double, 
 use Rattle.calculator.specs.Calls.{sixteen_neutral, reply}
 use Rattle.run.specs.Records.{Command, least_size, least_size_of_call, Reading, end, whole, short, unknown, reading}
 use Rattle.run.specs.Progress.{Progress, start, based, paired, ready, reply_bytes, replied, step, chosen}
-use Rattle.run.specs.Run.{Sheet, records-by, records, sheet_of, written, run_from}
+use Rattle.run.specs.Run.{Sheet, records, sheet_of, written, run_from}
 use Rattle.run.proofs.Order.{Turn, residues_first, nine_first, pairs_next, curve_on_base, curve_on_pairs, call_last, none, turn_of}
-use Rattle.run.proofs.Sheets.{whole_shorter, short_some, unknown_some, least_some}
+use Rattle.run.proofs.Sheets.{records_by, whole_shorter, short_some, unknown_some, least_some}
 
 replied_room : (c : Call) (a : Answer) → length (reply_bytes (replied c a)) ≤ 6 * least_size_of_call c
 replied_room (Enter t D) (RefusedCall e) = omega arith
@@ -38,6 +38,7 @@ choice_room number p kind q (Ok _) = omega arith
 choice_room number p kind q (Err e) = omega arith
 
 turn_room : (p : Progress) (c : Command) → Turn p c → length (reply_bytes (step p c).reply) ≤ 6 * least_size c
+unfolding step
 turn_room _ _ (residues_first m) =
     let h = choice_room refusal_number start 1 (based (residues m)) (fill_answer m m) in
     omega arith
@@ -66,7 +67,7 @@ all_written p s = written p s.commands ++ s.stop
 
 room_by : (p : Progress) (more : List ℕ → Sheet) (xs : List ℕ)
     → ((q : Progress) (rest : List ℕ) → length (all_written q (more rest)) ≤ 6 * length rest)
-    → (r : Reading) → reading xs ≡ r → length (all_written p (records-by more r)) ≤ 6 * length xs
+    → (r : Reading) → reading xs ≡ r → length (all_written p (records_by more r)) ≤ 6 * length xs
 room_by p more xs each end e = omega arith
 room_by p more xs each (whole c rest) e =
     let shorter = whole_shorter xs c rest e in

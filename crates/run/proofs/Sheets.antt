@@ -7,7 +7,7 @@ use Rattle.run.specs.declared.reply.Reply.TheVariants.{Refused}
 use Rattle.run.specs.Records.{Command, modulus, nine_elements, square_root, coefficients, call, Kind, kinds, kind_at, least_size, Reading, end, whole, short, unknown, reading, reading_by}
 use Rattle.run.specs.Progress.{Progress, step, reply_bytes}
 use Rattle.run.proofs.Reading.{whole_by_size, short_by_size}
-use Rattle.run.specs.Run.{Sheet, stopped, first, records-by, records, sheet_of, written, run_from}
+use Rattle.run.specs.Run.{Sheet, stopped, first, records, sheet_of, written, run_from}
 
 -- A record of each kind has its bytes, at the least.
 abbrev AllFit : List Kind → Type 0
@@ -130,8 +130,15 @@ least_some (call (Negate t a)) = omega arith
 least_some (call (Show a)) = omega arith
 
 -- Two ways to go on that agree on shorter sheets give the same records.
+-- The records of a sheet by what stands first on it, where `more` is what follows a whole record.
+abbrev pub records_by : (List ℕ → Sheet) → Reading → Sheet
+records_by more end = stopped []
+records_by more (whole c rest) = first c (more rest)
+records_by more (short kind) = stopped (reply_bytes (Refused kind 10))
+records_by more (unknown kind) = stopped (reply_bytes (Refused kind 11))
+
 records_by_same : (f g : List ℕ → Sheet) (xs : List ℕ) → ((rest : List ℕ) → length rest + 1 ≤ length xs → f rest ≡ g rest)
-    → (r : Reading) → reading xs ≡ r → records-by f r ≡ records-by g r
+    → (r : Reading) → reading xs ≡ r → records_by f r ≡ records_by g r
 records_by_same f g xs agree end e = refl
 records_by_same f g xs agree (whole c rest) e =
     let shorter = whole_shorter xs c rest e in
@@ -143,14 +150,14 @@ records_by_same f g xs agree (unknown kind) e = refl
 -- The records of a sheet do not depend on how many are asked for, if these are as many as its bytes.
 records-same : (n m : ℕ) (xs : List ℕ) → length xs ≤ n → length xs ≤ m → records n xs ≡ records m xs
 records-same zero zero xs h k = refl
-records-same zero (suc m) [] h k = sym (ap (records-by (records m)) reading-none)
+records-same zero (suc m) [] h k = sym (ap (records_by (records m)) reading-none)
 records-same zero (suc m) (x ∷ xs) h k = absurd (omega arith)
-records-same (suc n) zero [] h k = ap (records-by (records n)) reading-none
+records-same (suc n) zero [] h k = ap (records_by (records n)) reading-none
 records-same (suc n) zero (x ∷ xs) h k = absurd (omega arith)
 records-same (suc n) (suc m) xs h k =
     records_by_same (records n) (records m) xs (λ rest less. records-same n m rest (omega arith) (omega arith)) (reading xs) refl
 
-pub sheet_by : (xs : List ℕ) → sheet_of xs ≡ records-by sheet_of (reading xs)
+pub sheet_by : (xs : List ℕ) → sheet_of xs ≡ records_by sheet_of (reading xs)
 unfolding sheet_of
 sheet_by xs =
     records-same (length xs) (suc (length xs)) xs (omega arith) (omega arith)
@@ -158,11 +165,11 @@ sheet_by xs =
     (reading xs) refl
 
 pub sheet_none : sheet_of [] ≡ stopped []
-sheet_none = sheet_by [] ∙ ap (records-by sheet_of) reading-none
+sheet_none = sheet_by [] ∙ ap (records_by sheet_of) reading-none
 
 module _ (p : Progress) (xs : List ℕ) where
-  sheet_read : (r : Reading) → reading xs ≡ r → sheet_of xs ≡ records-by sheet_of r
-  sheet_read r e = sheet_by xs ∙ ap (records-by sheet_of) e
+  sheet_read : (r : Reading) → reading xs ≡ r → sheet_of xs ≡ records_by sheet_of r
+  sheet_read r e = sheet_by xs ∙ ap (records_by sheet_of) e
 
   run_sheet : (s : Sheet) → sheet_of xs ≡ s → run_from p xs ≡ written p s.commands ++ s.stop
   unfolding run_from

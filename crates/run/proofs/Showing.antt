@@ -44,6 +44,7 @@ module _ (K : Arithmetic) (L : Lawful K) (C : Curve) (rs : List Divisor) (k t : 
   show_read = read_whole 9 _ (k ∷ []) [] refl refl
 
   shown-reply : (step (ready K C rs) (call (Show k))).reply ≡ Shown k (at rs k)
+  unfolding step
   shown-reply = ap (λ r. replied (Show k) (said (Show k) r)) (numbered_fine k (Ok (at rs k)) small-k)
 
   enter_read : reading (5 ∷ t ∷ divisor_bytes (at rs k)) ≡ whole (call (Enter t (at rs k))) []
@@ -55,6 +56,7 @@ module _ (K : Arithmetic) (L : Lawful K) (C : Curve) (rs : List Divisor) (k t : 
   enter_gives = numbered_fine t (or_invalid (entered K C (at rs k))) small-t ∙ ap or_invalid valid
 
   pub shown_again : ShownAgain K C rs k t
+  unfolding step
   shown_again =
       record {
         shows = one_written (ready K C rs) (9 ∷ k ∷ []) (call (Show k)) show_read ∙ ap reply_bytes shown-reply;

@@ -40,6 +40,7 @@ choice_standing number p kind q (Ok _) before made = made refl
 choice_standing number p kind q (Err e) before made = before
 
 turn_standing : (p : Progress) (c : Command) → Turn p c → Standing p → Standing (step p c).after
+unfolding step
 turn_standing _ _ (residues_first m) s =
     choice_standing refusal_number start 1 (based (residues m)) (fill_answer m m) s (accepted_lawful m)
 turn_standing _ _ nine_first s = nine_lawful

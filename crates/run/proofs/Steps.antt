@@ -32,15 +32,18 @@ module _ {E : Type 0} (number : E → ℕ) (p : Progress) (c : Command) (kind : 
       record { comes_to = same ∙ sym (ap (λ x. x.after) s); writes = ap (Refused kind) num ∙ sym (ap (λ x. x.reply) s) }
 
 pub step-residues : (m : ℕ) → step start (modulus m) ≡ chosen refusal_number start 1 (based (residues m)) (fill_answer m m)
+unfolding step
 step-residues m = refl
 
 pub step-pairs : (K : Arithmetic) (r : ℕ)
     → step (based K) (square_root r) ≡ chosen refusal_number (based K) 3 (paired (pairs K K.size r)) (pairs_answer K r)
+unfolding step
 step-pairs K r = refl
 
 module _ {R : Type 0} (field : Ghosts R) (f : OneOf (OneOf R Nine) (Pairs (OneOf R Nine))) (C : Curve) where
   step_curve : step (progress_with field f) (coefficients C)
       ≡ chosen curve_refusal_number (progress_with field f) 4 (ready (chosen_meaning field f) C sixteen_neutral) (curve_answer (chosen_meaning field f) C)
+  unfolding step
   step_curve = elim f as (λ f. step (progress_with field f) (coefficients C) ≡ curve_step (progress_with field f) (chosen_meaning field f) C) [ First b ↦ refl | Second p ↦ refl ]
 
   -- The curve that is checked is that of the record.

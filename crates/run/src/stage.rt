@@ -27,6 +27,7 @@ pub(crate) enum Stage<T, R: Field, M> {
 
 impl<T: Ground<R> + Drop, R: Field + Drop, M: Method<Chosen<R>> + Drop> Stage<T, R, M> {
     // The stage after a record, and what is written for it.
+    #[tactic(auto, unfolding(crate::specs::Progress::step))]
     pub(crate) fn obey(self, arriving: Record) -> (Stage<T, R, M>, Reply)
         ensures obeyed { LawfulMethod M.Method.answers → Standing (progress_at R.Field self) → Obeyed (progress_at R.Field self) (said_by arriving.entry) (progress_at R.Field result.0) result.1 }
         ensures fits { length (reply_bytes result.1) ≤ 6 * least_size (said_by arriving.entry) }
@@ -70,6 +71,7 @@ impl<T: Ground<R> + Drop, R: Field + Drop, M: Method<Chosen<R>> + Drop> Stage<T,
     }
 
     // The nine elements.
+    #[tactic(auto, unfolding(crate::specs::Progress::step))]
     fn on_nine() -> (Stage<T, R, M>, Reply)
         ensures obeyed { Obeyed start nine_elements (progress_at R.Field result.0) result.1 }
         ensures fits { length (reply_bytes result.1) ≤ 3 }

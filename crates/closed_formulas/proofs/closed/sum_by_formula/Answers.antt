@@ -2,7 +2,7 @@
 use Rattle.std.proofs.Common.{sym, ◌∙◌}
 use Rattle.closed_formulas.proofs.Roads.{sum_not_first, sum_not_second, sum_not_applicable, sum_road}
 use Rattle.closed_formulas.proofs.closed.sum_by_formula.Goals as goal
-use Rattle.closed_formulas.proofs.closed.sum_by_formula.Goals.{then-not-is_of_degree_2-via-then-not-is_of_degree_2, then-not-is_of_degree_2-via-else-not-is-of-degree-2+then-not-is_of_degree_2-2}
+use Rattle.closed_formulas.proofs.closed.sum_by_formula.Goals.{then-not-is_of_degree_2-via-then-not-is_of_degree_2, then-not-is_of_degree_2-via-else-not-is_of_degree_2+then-not-is_of_degree_2-2}
 
 pub returns-then-not-is_of_degree_2 : goal.returns-then-not-is_of_degree_2
 returns-then-not-is_of_degree_2 g c L accepted =
@@ -11,7 +11,7 @@ returns-then-not-is_of_degree_2 g c L accepted =
       | then-not-is_of_degree_2-via-then-not-is_of_degree_2 w ↦
           sum_not_first K c.args.curve c.args.a c.args.b
           (sym (c.is_of_degree_2.ensures L accepted) ∙ w.if-not-is_of_degree_2.true)
-      | then-not-is_of_degree_2-via-else-not-is-of-degree-2+then-not-is_of_degree_2-2 w ↦
+      | then-not-is_of_degree_2-via-else-not-is_of_degree_2+then-not-is_of_degree_2-2 w ↦
           sum_not_second K c.args.curve c.args.a c.args.b
           (sym (w.is_of_degree_2-else-not-is_of_degree_2.ensures L accepted) ∙ w.if-not-is_of_degree_2-2.true)
     ]

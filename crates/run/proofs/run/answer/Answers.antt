@@ -2,6 +2,7 @@ use Rattle.std.proofs.Common.{◌≡◌, ℕ, ◌≤◌, List, length, sym, ap, 
 use Rattle.run.specs.Buffers.{overwritten}
 use Rattle.run.specs.Progress.{start}
 use Rattle.run.specs.Run.{run_bytes, program_bytes}
+use Rattle.run.proofs.Buffers.{overwritten_first}
 use Rattle.run.proofs.Room.{run_room}
 use Rattle.run.proofs.Sizes.{by_size_taken, program_taken}
 use Rattle.run.proofs.run.answer.Goals as goal
@@ -18,6 +19,6 @@ returns c =
       count = count ∙ sym (ap length ran);
       bytes =
           c.zafindoro_run.ensures.output ∙ by_size_taken sheet output _ _ _ c.told-output short
-          ∙ sym (ap (overwritten output 0) ran);
+          ∙ sym (ap (overwritten output 0) ran ∙ overwritten_first output (run_bytes sheet));
       room = omega (arith, count, run_room start sheet);
     }

@@ -1,9 +1,10 @@
 use Rattle.std.proofs.Common.{ap, ◌∙◌}
-use Rattle.run.specs.Progress.{ready, replied}
+use Rattle.run.specs.Progress.{ready, replied, step}
 use Rattle.run.specs.Stages.{chosen_meaning}
 use Rattle.run.proofs.stage.Stage.on_call.Goals as goal
 
 pub returns : goal.returns
+unfolding step
 returns g c =
     let sent = c.send-answer.ensures in
     let old = c.args.calculator in
