@@ -1,16 +1,15 @@
 # The commands of this repository.
 .PHONY: run test host fuzz staticlib
 
-# The library of the run for C, what it is linked with, and how C is compiled: with sanitizers where the compiler can link them.
-LIBRARY = target/staticlib/librun.a $(dir $(shell rt doc))../lib/librattle_c.a
+# The library of the run for C, and how C is compiled: with sanitizers where the compiler can link them.
+LIBRARY = target/staticlib/librun.a
 WARNINGS = -std=c11 -O2 -Wall -Wextra -Werror
 SANITIZERS = $(shell echo 'int main(void) { return 0; }' | $(CC) -fsanitize=address,undefined -x c - -o /dev/null 2> /dev/null \
 	&& echo -fsanitize=address,undefined -fno-sanitize-recover=all)
 
 # Proves and builds the program, runs the worked sheet, and prints the bytes of the answer.
 run:
-	rt check zafindoro
-	target/bin/zafindoro < crates/zafindoro/stdin | od -An -tx1 -v
+	cd crates/zafindoro && rt run < stdin | od -An -tx1 -v
 
 # The merge gate: proves every crate from nothing, tries the must-fail edits, runs the programs and the tests.
 test:
@@ -18,7 +17,9 @@ test:
 
 # Proves the run and writes its static library, target/staticlib/librun.a.
 staticlib:
-	rt staticlib run
+	cd crates/run_c && rt lib
+	mkdir -p target/staticlib
+	cp crates/run_c/out/librun_c.a $(LIBRARY)
 
 # Calls the library from a host program in C, and measures its stack.
 host: staticlib

@@ -15,8 +15,7 @@ use fields::{Field, Residues};
 use methods::{ByPolynomials, Method};
 
 // The call of a host program: runs a sheet with closed formulas over the polynomial method.
-#[unsafe(no_mangle)]
-pub extern "C" fn zafindoro_run(sheet: &[u8], output: &mut [u8]) -> u32
+pub fn zafindoro_run(sheet: &[u8], output: &mut [u8]) -> u32
     ensures answer { result ≡ run_answer sheet.now output.old }
     ensures output { output.new ≡ run_output sheet.now output.old }
     ensures laws { Laws sheet.now }
