@@ -1,7 +1,7 @@
 /* The run of a sheet for a host program in C.
  *
  * A sheet is a row of records as docs/RULES.md has it, under "Sheets". Link target/staticlib/librun.a, which
- * `rt staticlib run` writes, and librattle_c.a of the kit. */
+ * `make staticlib` writes. */
 #ifndef ZAFINDORO_H
 #define ZAFINDORO_H
 
