@@ -25,7 +25,6 @@ use Rattle.mumford.proofs.Choice.{chosen-quotient}
 use Rattle.mumford.proofs.Reduced as T
 use Rattle.mumford.proofs.Remainders as R
 use Rattle.methods.specs.declared.curve.Curve.{Curve}
-use Rattle.methods.specs.declared.divisor.Divisor.{Divisor}
 use Rattle.methods.specs.Curves.{sextic, root, Accepted}
 use Rattle.methods.specs.Divisors.{Valid}
 use Rattle.methods.specs.Sums.{Composite, Fair, deg, lifted, stepped_by, stepped}

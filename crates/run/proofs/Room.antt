@@ -1,5 +1,5 @@
 -- A run never writes more than six times the length of its sheet.
-use Rattle.std.proofs.Common.{◌≡◌, ℕ, zero, suc, ◌+◌, ◌*◌, ◌≤◌, List, ◌++◌, length, Ok, Err, Result, refl, ap, append_assoc, arith, length-append}
+use Rattle.std.proofs.Common.{◌≡◌, ℕ, zero, suc, ◌*◌, ◌≤◌, List, ◌++◌, length, Ok, Err, Result, refl, ap, append_assoc, arith, length-append}
 use Rattle.fields.specs.Pairs.{pairs, pairs_answer}
 use Rattle.fields.specs.Refusals.{refusal_number}
 use Rattle.fields.specs.Residues.{residues, fill_answer}

@@ -1,5 +1,5 @@
 -- Records: a kind byte and a body, one after another on a sheet.
-use Rattle.std.specs.Prelude.{ℕ, zero, suc, ◌-◌, true, false, List, [], ◌∷◌, length, take, drop, Some, None, Option, nat_le}
+use Rattle.std.specs.Prelude.{ℕ, zero, suc, true, false, List, [], ◌∷◌, length, take, drop, Some, None, Option, nat_le}
 use Rattle.std.specs.List.{slice_get}
 use Rattle.methods.specs.declared.curve.Curve.{Curve}
 use Rattle.calculator.specs.declared.call.Call.{Call}

@@ -1,7 +1,7 @@
 -- The run of a sheet: what is written, record for record, and what the call of a host program answers and leaves.
 use Rattle.std.specs.Prelude.{ℕ, zero, suc, ◌+◌, cond, List, [], ◌∷◌, ◌++◌, length, drop, ◌==◌, nat_le}
 use Rattle.run.specs.declared.reply.Reply.TheVariants.{Refused}
-use Rattle.run.specs.Records.{Command, Reading, end, whole, short, unknown, reading}
+use Rattle.run.specs.Records.{Command, end, whole, short, unknown, reading}
 use Rattle.run.specs.Progress.{Progress, start, reply_bytes, step}
 
 -- A sheet by its records: the whole ones, and what is written where the run stops at another, on 10 or 11.

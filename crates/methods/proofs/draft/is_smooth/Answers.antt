@@ -1,7 +1,6 @@
 -- One coefficient is what a constant has.
 use Rattle.std.proofs.Common.{◌≡◌, eqb, length, ap}
 use Rattle.polynomials.specs.Polynomial.{gcd, derivative}
-use Rattle.polynomials.specs.Ten.{value}
 use Rattle.methods.specs.Curves.{sextic, smooth}
 use Rattle.methods.proofs.draft.is_smooth.Goals as goal
 
