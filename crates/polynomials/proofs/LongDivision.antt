@@ -1,6 +1,5 @@
 -- The loop of long division on ten codes. It divides the codes x by those of y, from the highest of x down.
-use Rattle.std.proofs.Common.{◌≡◌, ℕ, zero, suc, pred, ◌+◌, ◌-◌, ◌<◌, ◌≤◌, List, [], ◌∷◌, length, get_or, drop, sym, refl, ap, ◌∙◌, subst, ap₂, arith, get_or-drop, drop-cons}
-use lib.Seq.{drop-length}
+use Rattle.std.proofs.Common.{◌≡◌, ℕ, suc, pred, ◌<◌, List, [], ◌∷◌, length, get_or, sym, refl, ap, ◌∙◌, ap₂}
 use Rattle.fields.specs.Arithmetic.{Arithmetic}
 use Rattle.fields.specs.Lawful.{Lawful}
 use Rattle.polynomials.specs.Polynomial.{Polynomial, trim, leading, divide}
@@ -22,13 +21,12 @@ module _ (K : Arithmetic) (L : Lawful K) (y : List ℕ) where
   abbrev d : Polynomial
   d = trim y
 
-  pub divided-none : (x : List ℕ) → length x ≡ 10 → Divided K (drop 10 x) d (lowest 10 []) (lowest 10 [])
-  divided-none x n =
-      subst (λ p. Divided K p d (lowest 10 []) (lowest 10 [])) (sym (ap (λ u. drop u x) (sym n) ∙ drop-length x))
-      (record {
+  pub divided-none : Divided K [] d (lowest 10 []) (lowest 10 [])
+  divided-none =
+      record {
         quotient_at = record { long = refl; each = λ k l. nothing-at 10 k };
         remainder_at = record { long = refl; each = λ k l. nothing-at 10 k };
-      })
+      }
 
   -- One turn, for the coefficient a: s is a + x·r, into which the divisor goes c times.
   module _ {top i : ℕ} (et : top ≡ pred (length d)) (lt : top < 10) (ei : i ≡ inverse (get_or y top 0)) where
@@ -38,7 +36,7 @@ module _ (K : Arithmetic) (L : Lawful K) (y : List ℕ) where
     module _ {q r s q' t m r' : List ℕ} {c : ℕ} (ec : c ≡ times (get_or s top 0) i)
         (hq : Filled 10 q' (λ k. get_or (c ∷ q) k 0)) (ht : Filled 10 t (λ k. times c (get_or y k 0)))
         (hm : Filled 10 m (λ k. minus (get_or t k 0))) (hr : Filled 10 r' (λ k. plus (get_or s k 0) (get_or m k 0))) where
-      divided-more : (a : ℕ) (p : Polynomial) → Codes K L (a ∷ p) → Divided K p d q r → Filled 10 s (λ k. get_or (a ∷ r) k 0)
+      pub divided-more : (a : ℕ) (p : Polynomial) → Codes K L (a ∷ p) → Divided K p d q r → Filled 10 s (λ k. get_or (a ∷ r) k 0)
           → Divided K (a ∷ p) d q' r'
       divided-more a p h before hs =
           let R : Polynomial = (divide K p d).remainder in
@@ -60,17 +58,3 @@ module _ (K : Arithmetic) (L : Lawful K) (y : List ℕ) where
                   ∙ sym (left_over-at K L d S hS k);
             };
           }
-
-      pub divided_turn : (x : List ℕ) → Codes K L x → (j : ℕ) → 0 < j → j ≤ length x → Divided K (drop j x) d q r
-          → Filled 10 s (λ k. get_or (get_or x (j - 1) 0 ∷ r) k 0)
-          → Divided K (drop (j - 1) x) d q' r'
-      divided_turn x h zero l n before hs = absurd (omega arith)
-      divided_turn x h (suc j) l n before hs =
-          let e : j ≡ suc j - 1 = omega arith in
-          let front : get_or x j 0 ∷ drop (suc j) x ≡ drop j x = sym (drop-cons x j 0 (omega arith)) in
-          subst (λ p. Divided K p d q' r') (front ∙ ap (λ u. drop u x) e)
-          (divided-more (get_or x j 0) (drop (suc j) x) (subst (Codes K L) (sym front) (drop-codes x j h)) before
-          (subst (λ u. Filled 10 s (λ k. get_or (get_or x u 0 ∷ r) k 0)) (sym e) hs))
-        where
-          drop-codes : (x : List ℕ) (i : ℕ) → Codes K L x → Codes K L (drop i x)
-          drop-codes x i h k = subst (λ v. v < size) (sym (get_or-drop i x k 0)) (h (i + k))

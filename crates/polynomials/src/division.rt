@@ -5,7 +5,7 @@ ghost use Rattle.fields.specs.Lawful.{Lawful};
 ghost use Rattle.polynomials.specs.Polynomial.{sum, product, quotient, remainder};
 ghost use Rattle.polynomials.specs.Ten.{value, Is};
 
-use crate::codes::{Polynomial, clean, top};
+use crate::codes::{Polynomial, clean};
 use crate::rows::{add, negate, scale, shift};
 use fields::Field;
 
@@ -19,12 +19,12 @@ pub fn divide<F: Field>(field: &F, a: Polynomial, b: Polynomial) -> (Polynomial,
 {
     let dividend = clean(field, a);
     let divisor = clean(field, b);
-    let highest = top(divisor);
+    let highest = divisor.top();
     let inverse = field.inverse(divisor.codes[highest]);
     let mut q = Polynomial::ZERO;
     let mut r = Polynomial::ZERO;
-    for i in (0..10).rev() {
-        let s = shift(dividend.codes[i], r);
+    for &code in dividend.codes.iter().rev() {
+        let s = shift(code, r);
         let x = field.product(s.codes[highest], inverse);
         q = shift(x, q);
         r = add(field, s, negate(field, scale(field, x, divisor)));

@@ -11,7 +11,7 @@ use crate::shape::{leading, places};
 use fields::Field;
 
 // A common divisor of two polynomials a and b with its cofactors: divisor = first·a + second·b.
-#[derive(Clone, Copy)]
+#[derive(Clone, Copy, Debug)]
 pub struct Combination {
     pub divisor: Polynomial,
     pub first: Polynomial,

@@ -43,8 +43,8 @@ pub fn product<F: Field>(field: &F, a: Polynomial, b: Polynomial) -> Polynomial
     let left = clean(field, a);
     let right = clean(field, b);
     let mut r = Polynomial::ZERO;
-    for i in (0..10).rev() {
-        r = add(field, scale(field, left.codes[i], right), shift(0, r));
+    for &code in left.codes.iter().rev() {
+        r = add(field, scale(field, code, right), shift(0, r));
     }
     r
 }

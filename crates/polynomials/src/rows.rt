@@ -5,38 +5,33 @@ ghost use Rattle.polynomials.specs.Ten.{Filled};
 
 use crate::codes::Polynomial;
 use fields::Field;
+use std::array;
 
 // a + b
 pub fn add<F: Field>(field: &F, a: Polynomial, b: Polynomial) -> Polynomial
     ensures { Filled 10 result.codes (λ k. (F.Field.meaning field.now).plus (slice_index a.codes k) (slice_index b.codes k)) }
 {
-    let mut codes = [0; 10];
-    for i in 0..10 {
-        codes[i] = field.sum(a.codes[i], b.codes[i]);
+    Polynomial {
+        codes: array::from_fn(|i| field.sum(a.codes[i], b.codes[i])),
     }
-    Polynomial { codes }
 }
 
 // −a
 pub fn negate<F: Field>(field: &F, a: Polynomial) -> Polynomial
     ensures { Filled 10 result.codes (λ k. (F.Field.meaning field.now).minus (slice_index a.codes k)) }
 {
-    let mut codes = [0; 10];
-    for i in 0..10 {
-        codes[i] = field.negative(a.codes[i]);
+    Polynomial {
+        codes: a.codes.map(|x| field.negative(x)),
     }
-    Polynomial { codes }
 }
 
 // x·a
 pub fn scale<F: Field>(field: &F, x: u32, a: Polynomial) -> Polynomial
     ensures { Filled 10 result.codes (λ k. (F.Field.meaning field.now).times x (slice_index a.codes k)) }
 {
-    let mut codes = [0; 10];
-    for i in 0..10 {
-        codes[i] = field.product(x, a.codes[i]);
+    Polynomial {
+        codes: a.codes.map(|y| field.product(x, y)),
     }
-    Polynomial { codes }
 }
 
 // x with a behind it, whose highest code is lost
@@ -44,9 +39,7 @@ pub fn shift(x: u32, a: Polynomial) -> Polynomial
     ensures { Filled 10 result.codes (λ k. slice_index (x ∷ a.codes) k) }
 {
     let mut codes = [x; 10];
-    for i in 1..10 {
-        codes[i] = a.codes[i - 1];
-    }
+    codes[1..].copy_from_slice(&a.codes[..9]);
     Polynomial { codes }
 }
 
@@ -57,9 +50,9 @@ pub fn derive<F: Field>(field: &F, a: Polynomial) -> Polynomial
 {
     let mut codes = [0; 10];
     let mut n = 0;
-    for i in 0..9 {
+    for (i, &x) in a.codes[1..].iter().enumerate() {
         n = field.sum(1, n);
-        codes[i] = field.product(n, a.codes[i + 1]);
+        codes[i] = field.product(n, x);
     }
     Polynomial { codes }
 }

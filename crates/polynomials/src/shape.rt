@@ -4,7 +4,7 @@ ghost use Rattle.fields.specs.Arithmetic.{Arithmetic};
 ghost use Rattle.polynomials.specs.Polynomial.{leading, degree, is_zero, same};
 ghost use Rattle.polynomials.specs.Ten.{value};
 
-use crate::codes::{Polynomial, clean, count, top};
+use crate::codes::{Polynomial, clean};
 use fields::Field;
 
 // How many coefficients there are: the degree and one, and 0 for the polynomial 0.
@@ -12,15 +12,14 @@ pub fn places<F: Field>(field: &F, a: Polynomial) -> usize
     ensures within { result ≤ 10 }
     ensures value { result ≡ length (value (F.Field.meaning field.now) a.codes) }
 {
-    count(clean(field, a))
+    clean(field, a).count()
 }
 
 // The degree. That of the polynomial 0 counts as below every number: there is none.
 pub fn degree<F: Field>(field: &F, a: Polynomial) -> Option<usize>
     ensures { result ≡ degree (value (F.Field.meaning field.now) a.codes) }
 {
-    let n = places(field, a);
-    if n == 0 { None } else { Some(n - 1) }
+    places(field, a).checked_sub(1)
 }
 
 // The highest coefficient that is not 0, and 0 for the polynomial 0.
@@ -28,14 +27,14 @@ pub fn leading<F: Field>(field: &F, a: Polynomial) -> u32
     ensures { result ≡ leading (value (F.Field.meaning field.now) a.codes) }
 {
     let p = clean(field, a);
-    p.codes[top(p)]
+    p.codes[p.top()]
 }
 
 // The coefficient of x to the k, which is 0 above the degree.
 pub fn coefficient<F: Field>(field: &F, a: Polynomial, k: usize) -> u32
     ensures { result ≡ slice_index (value (F.Field.meaning field.now) a.codes) k }
 {
-    if k < 10 { clean(field, a).codes[k] } else { 0 }
+    clean(field, a).codes.get(k).copied().unwrap_or(0)
 }
 
 // Whether a is the polynomial 0.
@@ -50,12 +49,5 @@ pub fn equal<F: Field>(field: &F, a: Polynomial, b: Polynomial) -> bool
     ensures value { (let K : Arithmetic = F.Field.meaning field.now in result ≡ same (value K a.codes) (value K b.codes)) }
     ensures decides { (let K : Arithmetic = F.Field.meaning field.now in Decides result (value K a.codes ≡ value K b.codes)) }
 {
-    let left = clean(field, a);
-    let right = clean(field, b);
-    for i in 0..10 {
-        if left.codes[i] != right.codes[i] {
-            return false;
-        }
-    }
-    true
+    clean(field, a).codes == clean(field, b).codes
 }

@@ -1,39 +1,47 @@
 -- Each turn brings down one coefficient more, as the definition of division does.
-use Rattle.std.proofs.Common.{◌≡◌, arith}
+use Rattle.std.proofs.Common.{◌≡◌, ◌<◌, ◌∷◌}
+use Rattle.std.proofs.lemmas.Iterator.Adapters.{YieldsList-from_rev_slice}
+use Rattle.std.proofs.lemmas.Iterator.Consumers.{YieldsList-end, YieldsList-turn}
 use Rattle.fields.specs.Lawful.{Lawful}
 use Rattle.polynomials.specs.Polynomial.{trim, quotient, remainder}
 use Rattle.polynomials.specs.Ten.{value, Is}
-use Rattle.polynomials.proofs.LongDivision.{Divided, divided-none, divided_turn}
+use Rattle.polynomials.proofs.Backwards.{behind, behind-more, behind-all, met_below}
+use Rattle.polynomials.proofs.Coefficients.{Codes, cons_codes}
+use Rattle.polynomials.proofs.LongDivision.{Divided, divided-more}
 use Rattle.polynomials.proofs.Promises.{quotient_is, remainder_is, remainder_lower, divides_whole, divides_by_zero}
 use Rattle.polynomials.proofs.Tens.{read_codes}
 use Rattle.polynomials.proofs.division.divide.Goals as goal
 
-pub loop-i-init : goal.loop-i-init
-loop-i-init g c L =
-    divided-none (g.F.Field.meaning c.args.field.now) L c.clean-divisor.result.codes c.clean-dividend.result.codes
-    c.clean-dividend.ensures.long
-
-pub loop-i-preserved : goal.loop-i-preserved
-loop-i-preserved g c L =
+pub loop-code-preserved : goal.loop-code-preserved
+loop-code-preserved g c L =
     let K = g.F.Field.meaning c.args.field.now in
-    divided_turn K L c.clean-divisor.result.codes c.top-highest.ensures.value c.top-highest.ensures.within
-    c.inverse-inverse.ensures c.product-x.ensures c.shift-q.ensures c.scale.ensures c.negate.ensures c.add-r.ensures
-    c.clean-dividend.result.codes (read_codes K L c.clean-dividend.ensures) c.loop-i.i (omega arith) (omega arith)
-    (c.loop-i.invariant L) c.shift-s.ensures
+    let p = behind c.loop-code.yielded in
+    let turn = YieldsList-turn (YieldsList-from_rev_slice c.clean-dividend.result.codes cc) c.loop-code.yielded _ c.loop-code.yielded_by _ _ c.in-Some.field-0
+    c.in-Some.is c.next.ensures.steps in
+    let is_code : c.in-Some.field-0.now < K.size = met_below c.clean-dividend.result.codes _ _ _ (read_codes K L c.clean-dividend.ensures) turn in
+    let hp : Codes K L (c.in-Some.field-0.now ∷ p) = cons_codes K L c.in-Some.field-0.now p is_code (c.loop-code.invariant L).0 in
+    rw behind-more (
+      hp,
+      divided-more K L c.clean-divisor.result.codes c.top-highest.ensures.value c.top-highest.ensures.within
+          c.inverse-inverse.ensures c.product-x.ensures c.shift-q.ensures c.scale.ensures c.negate.ensures c.add-r.ensures
+          c.in-Some.field-0.now p hp (c.loop-code.invariant L).1 c.shift-s.ensures,
+    )
 
 pub returns : goal.returns
 returns g c =
     let K = g.F.Field.meaning c.args.field.now in
     let a = c.args.a.codes in
     let b = c.args.b.codes in
-    let end : c.loop-i.i ≡ 0 = omega arith in
-    let whole : Lawful K → Divided K c.clean-dividend.result.codes (trim c.clean-divisor.result.codes) c.loop-i.q.codes c.loop-i.r.codes =
-    λ L. rw end at (c.loop-i.invariant L)
+    let x = c.clean-dividend.result.codes in
+    let all = YieldsList-end (YieldsList-from_rev_slice x cc) c.loop-code.yielded _ c.loop-code.yielded_by _ _ c.in-None.is c.next.ensures.steps in
+    let e : behind c.loop-code.yielded ≡ x = behind-all c.loop-code.yielded x all.0 in
+    let whole : Lawful K → Divided K x (trim c.clean-divisor.result.codes) c.loop-code.q.codes c.loop-code.r.codes =
+    λ L. rw e at (c.loop-code.invariant L).1
     in
-    let hq : Lawful K → Is K c.loop-i.q.codes (quotient K (value K a) (value K b)) =
+    let hq : Lawful K → Is K c.loop-code.q.codes (quotient K (value K a) (value K b)) =
     λ L. quotient_is K L c.clean-dividend.ensures c.clean-divisor.ensures (whole L)
     in
-    let hr : Lawful K → Is K c.loop-i.r.codes (remainder K (value K a) (value K b)) =
+    let hr : Lawful K → Is K c.loop-code.r.codes (remainder K (value K a) (value K b)) =
     λ L. remainder_is K L c.clean-dividend.ensures c.clean-divisor.ensures (whole L)
     in
     record {

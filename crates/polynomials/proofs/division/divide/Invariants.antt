@@ -1,11 +1,12 @@
--- q and r are quotient and remainder of the coefficients of the dividend from i on.
-use Rattle.std.proofs.Common.{drop}
+-- q and r are quotient and remainder of the coefficients of the dividend that the loop has come to.
 use Rattle.fields.specs.Lawful.{Lawful}
 use Rattle.polynomials.specs.Polynomial.{trim}
+use Rattle.polynomials.proofs.Backwards.{behind}
+use Rattle.polynomials.proofs.Coefficients.{Codes}
 use Rattle.polynomials.proofs.LongDivision.{Divided}
 use Rattle.polynomials.proofs.division.divide.Given as goal
 
-abbrev pub invariant-loop-i : goal.invariant-loop-i
-invariant-loop-i g l =
+abbrev pub invariant-loop-code : goal.invariant-loop-code
+invariant-loop-code g l =
     let K = g.F.Field.meaning l.field in
-    Lawful K → Divided K (drop l.i l.dividend.codes) (trim l.divisor.codes) l.q.codes l.r.codes
+    (L : Lawful K) → Codes K L (behind l.yielded) × Divided K (behind l.yielded) (trim l.divisor.codes) l.q.codes l.r.codes

@@ -1,25 +1,21 @@
 -- Each turn takes one coefficient of the left factor more, as the definition of the product does.
-use Rattle.std.proofs.Common.{◌≡◌, get_or, drop, arith}
-use Rattle.polynomials.specs.Polynomial.{multiply}
-use Rattle.polynomials.specs.Ten.{Filled}
-use Rattle.polynomials.proofs.Promises.{product_is, product-more, product-none}
+use Rattle.std.proofs.Common.{◌≡◌}
+use Rattle.std.proofs.lemmas.Iterator.Adapters.{YieldsList-from_rev_slice}
+use Rattle.std.proofs.lemmas.Iterator.Consumers.{YieldsList-end}
+use Rattle.polynomials.proofs.Backwards.{behind, behind-more, behind-all}
+use Rattle.polynomials.proofs.Promises.{product_is, product-more}
 use Rattle.polynomials.proofs.ring.product.Goals as goal
 
-pub loop-i-init : goal.loop-i-init
-loop-i-init g c L =
-    product-none (g.F.Field.meaning c.args.field.now) L c.clean-left.result.codes c.clean-right.result.codes
-    c.clean-left.ensures.long
-
-pub loop-i-preserved : goal.loop-i-preserved
-loop-i-preserved g c L =
-    product-more (g.F.Field.meaning c.args.field.now) L c.clean-left.result.codes c.clean-right.result.codes c.loop-i.i
-    (omega arith) (omega arith) (c.loop-i.invariant L) c.scale.ensures c.shift.ensures c.add-r.ensures
+pub loop-code-preserved : goal.loop-code-preserved
+loop-code-preserved g c L =
+    let K = g.F.Field.meaning c.args.field.now in
+    rw behind-more (product-more K L c.in-Some.field-0.now (behind c.loop-code.yielded) c.clean-right.result.codes (c.loop-code.invariant L)
+    c.scale.ensures c.shift.ensures c.add-r.ensures)
 
 pub returns : goal.returns
 returns g c L =
     let K = g.F.Field.meaning c.args.field.now in
     let x = c.clean-left.result.codes in
-    let y = c.clean-right.result.codes in
-    let e : c.loop-i.i ≡ 0 = omega arith in
-    let whole : Filled 10 c.loop-i.r.codes (λ k. get_or (multiply K (drop 0 x) y) k 0) = rw e at (c.loop-i.invariant L) in
-    product_is K L c.clean-left.ensures c.clean-right.ensures whole
+    let all = YieldsList-end (YieldsList-from_rev_slice x cc) c.loop-code.yielded _ c.loop-code.yielded_by _ _ c.in-None.is c.next.ensures.steps in
+    let e : behind c.loop-code.yielded ≡ x = behind-all c.loop-code.yielded x all.0 in
+    product_is K L c.clean-left.ensures c.clean-right.ensures (rw e at (c.loop-code.invariant L))

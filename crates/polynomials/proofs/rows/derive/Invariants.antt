@@ -8,5 +8,5 @@ abbrev pub invariant-loop-i : goal.invariant-loop-i
 invariant-loop-i g l =
     let K = g.F.Field.meaning l.field in
     (l.n ≡ numeral K l.i)
-    × Filled l.i l.codes (λ k. K.times (numeral K (suc k)) (get_or l.a.codes (suc k) 0))
+    × Filled l.i l.codes (λ k. K.times (numeral K (suc k)) (get_or l.fn.a.codes (suc k) 0))
     × (get_or l.codes 9 0 ≡ 0)

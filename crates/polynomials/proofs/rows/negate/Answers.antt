@@ -1,7 +1,0 @@
--- Each turn writes one negative more.
-use Rattle.std.proofs.Common.{arith}
-use Rattle.polynomials.proofs.Filling.{filled_more}
-use Rattle.polynomials.proofs.rows.negate.Goals as goal
-
-pub loop-i-preserved : goal.loop-i-preserved
-loop-i-preserved g c = filled_more _ _ _ _ c.loop-i.invariant (omega arith) c.negative.ensures
