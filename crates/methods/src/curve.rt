@@ -7,7 +7,7 @@ use fields::Field;
 use polynomials::Polynomial;
 
 // f = x⁶ + f4·x⁴ + f3·x³ + f2·x² + f1·x + f0, by its coefficients.
-#[derive(Clone, Copy)]
+#[derive(Clone, Copy, Debug, PartialEq, Eq, Hash)]
 pub struct Curve {
     pub f4: u32,
     pub f3: u32,
@@ -17,7 +17,7 @@ pub struct Curve {
 }
 
 // Why a curve is refused.
-#[derive(Clone, Copy)]
+#[derive(Clone, Copy, Debug, PartialEq, Eq, Hash)]
 pub enum CurveRefusal {
     // 5: a coefficient is above q − 1
     NotACode,

@@ -8,9 +8,10 @@ ghost use Rattle.methods.specs.Divisors.{u_of, v_of, divisor_of, shaped, unused,
 use crate::curve::{Curve, sextic};
 use fields::Field;
 use polynomials::{Polynomial, coefficient, difference, divide, is_zero, places, product};
+use std::fmt;
 
 // x1·x + x0
-#[derive(Clone, Copy)]
+#[derive(Clone, Copy, Debug, PartialEq, Eq, Hash)]
 pub struct Linear {
     pub x1: u32,
     pub x0: u32,
@@ -18,7 +19,7 @@ pub struct Linear {
 
 // [u; v; n]: u is monic of this degree, with the lower coefficients given; v has a smaller degree, and coefficients that are
 // not used are 0; n counts the point at infinity where y/x³ is 1.
-#[derive(Clone, Copy)]
+#[derive(Clone, Copy, Debug, PartialEq, Eq, Hash)]
 pub struct Divisor {
     pub degree: u8,
     pub u: Linear,
@@ -27,7 +28,7 @@ pub struct Divisor {
 }
 
 // Why a divisor is refused.
-#[derive(Clone, Copy)]
+#[derive(Clone, Copy, Debug, PartialEq, Eq, Hash)]
 pub enum DivisorRefusal {
     // 4: the degree is above 2, n is above 2 − degree, or an unused coefficient is not 0
     Shape,
@@ -107,6 +108,14 @@ impl Divisor {
             },
             n,
         }
+    }
+}
+
+// Degree, u1, u0, v1, v0 and n.
+impl fmt::Display for Divisor {
+    fn fmt<W: fmt::Write>(&self, f: &mut fmt::Formatter<W>) -> fmt::Result {
+        let Divisor { degree, u, v, n } = *self;
+        write!(f, "{degree} {} {} {} {} {n}", u.x1, u.x0, v.x1, v.x0)
     }
 }
 
