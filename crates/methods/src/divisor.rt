@@ -5,9 +5,10 @@ ghost use Rattle.fields.specs.Lawful.{Lawful};
 ghost use Rattle.polynomials.specs.Ten.{value};
 ghost use Rattle.methods.specs.Divisors.{u_of, v_of, divisor_of, shaped, unused, linear_codes, on_curve, entered as entered_as, Valid, neutral as neutral_divisor, opposite, divisor_refusal_number};
 
+use crate::codes::are_codes;
 use crate::curve::{Curve, sextic};
 use fields::Field;
-use polynomials::{Polynomial, coefficient, difference, divide, is_zero, places, product};
+use polynomials::{Polynomial, coefficient, degree, difference, divide, is_zero, product};
 use std::fmt;
 
 // x1·x + x0
@@ -150,12 +151,12 @@ pub fn negative<F: Field>(field: &F, d: Divisor) -> Divisor
     }
 }
 
-// The degree of a polynomial that is not 0.
+// The degree of a polynomial, where that of 0 counts as 0.
 pub fn degree_of<F: Field>(field: &F, p: Polynomial) -> u8
     ensures within { result < 10 }
     ensures value { result ≡ length (value (F.Field.meaning field.now) p.codes) - 1 }
 {
-    places(field, p).saturating_sub(1) as u8
+    degree(field, p).unwrap_or(0) as u8
 }
 
 // The coefficient of x to the k, if it stands below the leading one.
@@ -191,8 +192,7 @@ fn is_unused(degree: u8, l: Linear) -> bool
 fn has_codes<F: Field>(field: &F, d: Divisor) -> bool
     ensures { result ≡ linear_codes (F.Field.meaning field.now) d.u && linear_codes (F.Field.meaning field.now) d.v }
 {
-    let q = field.size();
-    d.u.x1 < q && d.u.x0 < q && d.v.x1 < q && d.v.x0 < q
+    are_codes(field, &[d.u.x1, d.u.x0, d.v.x1, d.v.x0])
 }
 
 // Whether u divides f − v².
