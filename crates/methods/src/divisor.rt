@@ -40,7 +40,8 @@ pub enum DivisorRefusal {
 }
 
 impl DivisorRefusal {
-    // The number of the condition.
+    // The number of the condition. A method and no conversion: the number alone does not say which refusal it is, since a
+    // curve has a refusal 5 too.
     pub fn number(self) -> u8
         ensures { result ≡ divisor_refusal_number self }
     {
@@ -164,7 +165,7 @@ fn below_leading<F: Field>(field: &F, p: Polynomial, k: u8) -> u32
     ensures { (let K : Arithmetic = F.Field.meaning field.now in result ≡ slice_index (take (length (value K p.codes) - 1) (value K p.codes)) k) }
 {
     if k < degree_of(field, p) {
-        coefficient(field, p, k as usize)
+        coefficient(field, p, usize::from(k))
     } else {
         0
     }

@@ -28,7 +28,7 @@ pub struct Draft {
 }
 
 // A field and a curve that the check has accepted. Its parts are private, and nothing but the check makes one.
-#[derive(Drop)]
+#[derive(Debug, Drop)]
 pub struct Model<F> {
     field: F,
     curve: Curve,
@@ -61,6 +61,14 @@ impl Draft {
             Coefficient::F1 => self.curve.f1 = value,
             Coefficient::F0 => self.curve.f0 = value,
         }
+    }
+}
+
+impl Default for Draft {
+    ghost is_default = { λ draft. drafted draft ≡ record { f4 = 0; f3 = 0; f2 = 0; f1 = 0; f0 = 0 } };
+
+    fn default() -> Draft {
+        Draft::new()
     }
 }
 

@@ -65,8 +65,8 @@ fn lift<F: Field>(field: &F, curve: Curve, c: Composition) -> Polynomial
     if degree_of(field, c.u) == 4 {
         return c.v;
     }
-    let root = root(field, curve);
-    let part = if c.n < 0 { negative(field, root) } else { root };
+    let part = root(field, curve);
+    let part = if c.n < 0 { negative(field, part) } else { part };
     let (_, r) = divide(field, difference(field, c.v, part), c.u);
     sum(field, part, r)
 }
