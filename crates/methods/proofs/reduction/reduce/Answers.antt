@@ -14,7 +14,10 @@ returns-then-is_in_range g c L fair =
     let S = composite_of K c.args.c in
     let fits : FitsSigned w16 c.args.c.n = search rules in
     let least : 1 ≤ S.n+1 = grind (arith, nat_tests) in
-    c.from_polynomials.ensures ∙ ap (divisor_of S.u S.v) (ap unsigned_abs (to_z-of_z w16 c.args.c.n fits) ∙ one_more_less c.args.c.n least) ∙ reduced-in_range K c.args.curve (composite_of K c.args.c) c.if-is_in_range.ensures
+    let same = to_z-of_z w16 c.args.c.n fits in
+    let count = one_more_less c.args.c.n least in
+    let kept = reduced-in_range K c.args.curve S c.if-is_in_range.ensures in
+    cc
 
 pub returns-else-is_in_range : goal.returns-else-is_in_range
 returns-else-is_in_range g c L fair =
