@@ -7,7 +7,7 @@ use Rattle.methods.specs.declared.draft.Draft.{Draft}
 
 -- the curve that a draft would be
 abbrev pub drafted : Draft → Curve
-drafted d = record { f4 = d.f4; f3 = d.f3; f2 = d.f2; f1 = d.f1; f0 = d.f0 }
+drafted d = d.curve
 
 abbrev pub changed : Curve → Coefficient → ℕ → Curve
 changed C F4 x = record { f4 = x; f3 = C.f3; f2 = C.f2; f1 = C.f1; f0 = C.f0 }

@@ -7,7 +7,7 @@ use fields::Field;
 use polynomials::Polynomial;
 
 // f = x⁶ + f4·x⁴ + f3·x³ + f2·x² + f1·x + f0, by its coefficients.
-#[derive(Clone, Copy)]
+#[derive(Clone, Copy, Debug, PartialEq, Eq, Hash)]
 pub struct Curve {
     pub f4: u32,
     pub f3: u32,
@@ -17,7 +17,7 @@ pub struct Curve {
 }
 
 // Why a curve is refused.
-#[derive(Clone, Copy)]
+#[derive(Clone, Copy, Debug, PartialEq, Eq, Hash)]
 pub enum CurveRefusal {
     // 5: a coefficient is above q − 1
     NotACode,
@@ -26,7 +26,8 @@ pub enum CurveRefusal {
 }
 
 impl CurveRefusal {
-    // The number of the condition.
+    // The number of the condition. A method and no conversion: the number alone does not say which refusal it is, since a
+    // divisor has a refusal 5 too.
     pub fn number(self) -> u8
         ensures { result ≡ curve_refusal_number self }
     {

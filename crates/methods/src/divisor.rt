@@ -5,12 +5,14 @@ ghost use Rattle.fields.specs.Lawful.{Lawful};
 ghost use Rattle.polynomials.specs.Ten.{value};
 ghost use Rattle.methods.specs.Divisors.{u_of, v_of, divisor_of, shaped, unused, linear_codes, on_curve, entered as entered_as, Valid, neutral as neutral_divisor, opposite, divisor_refusal_number};
 
+use crate::codes::are_codes;
 use crate::curve::{Curve, sextic};
 use fields::Field;
-use polynomials::{Polynomial, coefficient, difference, divide, is_zero, places, product};
+use polynomials::{Polynomial, coefficient, degree, difference, divide, is_zero, product};
+use std::fmt;
 
 // x1·x + x0
-#[derive(Clone, Copy)]
+#[derive(Clone, Copy, Debug, PartialEq, Eq, Hash)]
 pub struct Linear {
     pub x1: u32,
     pub x0: u32,
@@ -18,7 +20,7 @@ pub struct Linear {
 
 // [u; v; n]: u is monic of this degree, with the lower coefficients given; v has a smaller degree, and coefficients that are
 // not used are 0; n counts the point at infinity where y/x³ is 1.
-#[derive(Clone, Copy)]
+#[derive(Clone, Copy, Debug, PartialEq, Eq, Hash)]
 pub struct Divisor {
     pub degree: u8,
     pub u: Linear,
@@ -27,7 +29,7 @@ pub struct Divisor {
 }
 
 // Why a divisor is refused.
-#[derive(Clone, Copy)]
+#[derive(Clone, Copy, Debug, PartialEq, Eq, Hash)]
 pub enum DivisorRefusal {
     // 4: the degree is above 2, n is above 2 − degree, or an unused coefficient is not 0
     Shape,
@@ -38,7 +40,8 @@ pub enum DivisorRefusal {
 }
 
 impl DivisorRefusal {
-    // The number of the condition.
+    // The number of the condition. A method and no conversion: the number alone does not say which refusal it is, since a
+    // curve has a refusal 5 too.
     pub fn number(self) -> u8
         ensures { result ≡ divisor_refusal_number self }
     {
@@ -110,6 +113,14 @@ impl Divisor {
     }
 }
 
+// Degree, u1, u0, v1, v0 and n.
+impl fmt::Display for Divisor {
+    fn fmt<W: fmt::Write>(&self, f: &mut fmt::Formatter<W>) -> fmt::Result {
+        let Divisor { degree, u, v, n } = *self;
+        write!(f, "{degree} {} {} {} {} {n}", u.x1, u.x0, v.x1, v.x0)
+    }
+}
+
 // The divisor, if it is valid on the curve; or else why it is not: 4, then 5, then 9.
 pub fn entered<F: Field>(field: &F, curve: Curve, d: Divisor) -> Result<Divisor, DivisorRefusal>
     ensures { Lawful (F.Field.meaning field.now) → result ≡ entered_as (F.Field.meaning field.now) curve d }
@@ -141,12 +152,12 @@ pub fn negative<F: Field>(field: &F, d: Divisor) -> Divisor
     }
 }
 
-// The degree of a polynomial that is not 0.
+// The degree of a polynomial, where that of 0 counts as 0.
 pub fn degree_of<F: Field>(field: &F, p: Polynomial) -> u8
     ensures within { result < 10 }
     ensures value { result ≡ length (value (F.Field.meaning field.now) p.codes) - 1 }
 {
-    places(field, p).saturating_sub(1) as u8
+    degree(field, p).unwrap_or(0) as u8
 }
 
 // The coefficient of x to the k, if it stands below the leading one.
@@ -154,7 +165,7 @@ fn below_leading<F: Field>(field: &F, p: Polynomial, k: u8) -> u32
     ensures { (let K : Arithmetic = F.Field.meaning field.now in result ≡ slice_index (take (length (value K p.codes) - 1) (value K p.codes)) k) }
 {
     if k < degree_of(field, p) {
-        coefficient(field, p, k as usize)
+        coefficient(field, p, usize::from(k))
     } else {
         0
     }
@@ -182,8 +193,7 @@ fn is_unused(degree: u8, l: Linear) -> bool
 fn has_codes<F: Field>(field: &F, d: Divisor) -> bool
     ensures { result ≡ linear_codes (F.Field.meaning field.now) d.u && linear_codes (F.Field.meaning field.now) d.v }
 {
-    let q = field.size();
-    d.u.x1 < q && d.u.x0 < q && d.v.x1 < q && d.v.x0 < q
+    are_codes(field, &[d.u.x1, d.u.x0, d.v.x1, d.v.x0])
 }
 
 // Whether u divides f − v².

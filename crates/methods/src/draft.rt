@@ -4,12 +4,13 @@ ghost use Rattle.fields.specs.Lawful.{Lawful};
 ghost use Rattle.methods.specs.Curves.{coefficients_are_codes, smooth, curve_answer};
 ghost use Rattle.methods.specs.Drafts.{drafted, changed};
 
+use crate::codes::are_codes;
 use crate::curve::{Curve, CurveRefusal, sextic};
 use fields::Field;
-use polynomials::{derivative, gcd, places};
+use polynomials::{degree, derivative, gcd};
 
 // One of the five coefficients of a curve.
-#[derive(Clone, Copy)]
+#[derive(Clone, Copy, Debug, PartialEq, Eq, Hash)]
 pub enum Coefficient {
     F4,
     F3,
@@ -21,17 +22,13 @@ pub enum Coefficient {
 // A curve in the making: five numbers, at first 0. It is no curve yet, and nothing that adds divisors takes a draft: the build
 // refuses to add on one. The check moves it away: the build refuses to change or to look at a draft that the check took, so
 // begin a new one, or go on with the one that comes back with a refusal.
-#[derive(Drop)]
+#[derive(Debug, Drop)]
 pub struct Draft {
-    f4: u32,
-    f3: u32,
-    f2: u32,
-    f1: u32,
-    f0: u32,
+    curve: Curve,
 }
 
 // A field and a curve that the check has accepted. Its parts are private, and nothing but the check makes one.
-#[derive(Drop)]
+#[derive(Debug, Drop)]
 pub struct Model<F> {
     field: F,
     curve: Curve,
@@ -43,11 +40,13 @@ impl Draft {
         ensures { drafted result ≡ record { f4 = 0; f3 = 0; f2 = 0; f1 = 0; f0 = 0 } }
     {
         Draft {
-            f4: 0,
-            f3: 0,
-            f2: 0,
-            f1: 0,
-            f0: 0,
+            curve: Curve {
+                f4: 0,
+                f3: 0,
+                f2: 0,
+                f1: 0,
+                f0: 0,
+            },
         }
     }
 
@@ -56,12 +55,29 @@ impl Draft {
         ensures { drafted self.new ≡ changed (drafted self.old) which value }
     {
         match which {
-            Coefficient::F4 => self.f4 = value,
-            Coefficient::F3 => self.f3 = value,
-            Coefficient::F2 => self.f2 = value,
-            Coefficient::F1 => self.f1 = value,
-            Coefficient::F0 => self.f0 = value,
+            Coefficient::F4 => self.curve.f4 = value,
+            Coefficient::F3 => self.curve.f3 = value,
+            Coefficient::F2 => self.curve.f2 = value,
+            Coefficient::F1 => self.curve.f1 = value,
+            Coefficient::F0 => self.curve.f0 = value,
         }
+    }
+}
+
+impl Default for Draft {
+    ghost is_default = { λ draft. drafted draft ≡ record { f4 = 0; f3 = 0; f2 = 0; f1 = 0; f0 = 0 } };
+
+    fn default() -> Draft {
+        Draft::new()
+    }
+}
+
+// The draft that holds the coefficients of a curve, in place of five changes.
+impl From<Curve> for Draft {
+    ghost from_gives = { λ curve draft. drafted draft ≡ curve };
+
+    fn from(curve: Curve) -> Draft {
+        Draft { curve }
     }
 }
 
@@ -71,13 +87,7 @@ impl<F: Field> Model<F> {
         ensures answer { Lawful (F.Field.meaning field) → MatchResult result (λ _. curve_answer (F.Field.meaning field) (drafted draft) ≡ Ok tt) (λ e. curve_answer (F.Field.meaning field) (drafted draft) ≡ Err e.2) }
         ensures holds { MatchResult result (λ m. (m.field ≡ field) × (m.curve ≡ drafted draft)) (λ e. (e.0 ≡ field) × (e.1 ≡ draft)) }
     {
-        let curve = Curve {
-            f4: draft.f4,
-            f3: draft.f3,
-            f2: draft.f2,
-            f1: draft.f1,
-            f0: draft.f0,
-        };
+        let curve = draft.curve;
         if !has_codes(&field, curve) {
             return Err((field, draft, CurveRefusal::NotACode));
         }
@@ -106,8 +116,8 @@ impl<F: Field> Model<F> {
 fn has_codes<F: Field>(field: &F, curve: Curve) -> bool
     ensures { result ≡ coefficients_are_codes (F.Field.meaning field.now) curve }
 {
-    let q = field.size();
-    curve.f4 < q && curve.f3 < q && curve.f2 < q && curve.f1 < q && curve.f0 < q
+    let Curve { f4, f3, f2, f1, f0 } = curve;
+    are_codes(field, &[f4, f3, f2, f1, f0])
 }
 
 // Whether f and its derivative have no common factor.
@@ -116,5 +126,5 @@ fn is_smooth<F: Field>(field: &F, curve: Curve) -> bool
 {
     let f = sextic(field, curve);
     let shared = gcd(field, f, derivative(field, f));
-    places(field, shared.divisor) == 1
+    degree(field, shared.divisor) == Some(0)
 }
