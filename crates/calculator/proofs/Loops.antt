@@ -6,11 +6,10 @@ use Rattle.fields.specs.declared.field.Field.{Ghosts}
 use Rattle.methods.specs.declared.divisor.Divisor.{Divisor}
 use Rattle.methods.specs.declared.draft.Model.{Model}
 use Rattle.methods.specs.Methods.{Law}
-use Rattle.calculator.specs.declared.call.Answer.{Answer}
 use Rattle.calculator.specs.declared.call.Call.{Call}
 use Rattle.calculator.specs.declared.call.CallRefusal.{CallRefusal}
 use Rattle.calculator.specs.declared.calculator.Calculator.{Calculator}
-use Rattle.calculator.specs.Calls.{given, posted, said, next, reply, nexts, replies}
+use Rattle.calculator.specs.Calls.{Answer, given, posted, said, next, reply, nexts, replies}
 use Rattle.calculator.specs.Calculators.{held, on, Sound, gives, Left, LeftAll}
 
 -- the first of what is left

@@ -3,7 +3,7 @@ ghost use Rattle.std.specs.Prelude.{◌≡◌, [], ◌∷◌};
 ghost use Rattle.calculator.specs.Calls.{nothing, said};
 ghost use Rattle.calculator.specs.Calculators.{calls_of, answers_of, Fresh, Sound, gives, Left, LeftAll, Accounted, Settled};
 
-use crate::call::{Answer, Call, CallRefusal, Exchange, done, shown};
+use crate::call::{Answer, Call, CallRefusal, Exchange};
 use crate::registers::Registers;
 use fields::Field;
 use methods::{Divisor, Method, Model, entered, negative};
@@ -99,11 +99,11 @@ impl<F: Field, M: Method<F>> Calculator<F, M> {
         ensures accounted { Accounted F.Field M.Method.answers (call ∷ []) self.old self.new (result ∷ []) }
     {
         match call {
-            Call::Enter(target, divisor) => done(self.enter(target, divisor)),
-            Call::Add(target, a, b) => done(self.add(target, a, b)),
-            Call::Double(target, a) => done(self.double(target, a)),
-            Call::Negate(target, a) => done(self.negate(target, a)),
-            Call::Show(register) => shown(self.show(register)),
+            Call::Enter(target, divisor) => self.enter(target, divisor).map(|()| None),
+            Call::Add(target, a, b) => self.add(target, a, b).map(|()| None),
+            Call::Double(target, a) => self.double(target, a).map(|()| None),
+            Call::Negate(target, a) => self.negate(target, a).map(|()| None),
+            Call::Show(register) => self.show(register).map(Some),
         }
     }
 

@@ -1,6 +1,6 @@
 // Calls as values, with their answers and refusals.
 ghost use Rattle.std.specs.Prelude.{◌≡◌};
-ghost use Rattle.calculator.specs.Calls.{call_refusal_number, done as done_as, shown as shown_as};
+ghost use Rattle.calculator.specs.Calls.{call_refusal_number};
 
 use methods::{Divisor, DivisorRefusal};
 
@@ -40,37 +40,12 @@ impl CallRefusal {
     }
 }
 
-// What a call answers: why it is refused; accepted, Show answers the register's divisor, and the others nothing.
-#[derive(Clone, Copy)]
-pub enum Answer {
-    Refused(CallRefusal),
-    Shown(Divisor),
-    Done,
-}
+// What a call answers: accepted, Show the register's divisor, and the others nothing; or why it is refused.
+pub type Answer = Result<Option<Divisor>, CallRefusal>;
 
 // A call with the place for its answer.
 #[derive(Clone, Copy)]
 pub struct Exchange {
     pub call: Call,
     pub answer: Answer,
-}
-
-// The answer of a call that shows nothing.
-pub fn done(r: Result<(), CallRefusal>) -> Answer
-    ensures { result ≡ done_as r }
-{
-    match r {
-        Ok(()) => Answer::Done,
-        Err(why) => Answer::Refused(why),
-    }
-}
-
-// The answer of a call that shows a divisor.
-pub fn shown(r: Result<Divisor, CallRefusal>) -> Answer
-    ensures { result ≡ shown_as r }
-{
-    match r {
-        Ok(divisor) => Answer::Shown(divisor),
-        Err(why) => Answer::Refused(why),
-    }
 }
