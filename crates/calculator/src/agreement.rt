@@ -11,7 +11,7 @@ use fields::Field;
 use methods::{ByPolynomials, Method};
 
 // A call with the places for the answers of two calculators.
-#[derive(Clone, Copy)]
+#[derive(Clone, Copy, Debug, PartialEq, Eq, Hash)]
 pub struct Comparison {
     pub call: Call,
     pub first: Answer,

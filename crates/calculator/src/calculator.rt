@@ -4,6 +4,7 @@ ghost use Rattle.calculator.specs.Calls.{nothing, said};
 ghost use Rattle.calculator.specs.Calculators.{calls_of, answers_of, Fresh, Sound, gives, Left, LeftAll, Accounted, Settled};
 
 use crate::call::{Answer, Call, CallRefusal, Exchange};
+use crate::register::Register;
 use crate::registers::Registers;
 use fields::Field;
 use methods::{Divisor, Method, Model, entered, negative};
@@ -35,11 +36,10 @@ impl<F: Field, M: Method<F>> Calculator<F, M> {
         ensures answer { Sound F.Field M.Method.answers self.old → result ≡ nothing (gives F.Field self.old (Call.Enter target divisor)) }
         ensures left { Left F.Field M.Method.answers (Call.Enter target divisor) self.old self.new }
     {
-        if target > 15 {
-            return Err(CallRefusal::NoSuchRegister);
-        }
-        let valid = entered(self.model.field(), self.model.curve(), divisor);
-        self.registers.put(target, valid)
+        let target = Register::try_from(target)?;
+        let valid = entered(self.model.field(), self.model.curve(), divisor)?;
+        self.registers.put(target, valid);
+        Ok(())
     }
 
     // Puts the sum of two registers into the target.
@@ -47,13 +47,12 @@ impl<F: Field, M: Method<F>> Calculator<F, M> {
         ensures answer { Sound F.Field M.Method.answers self.old → result ≡ nothing (gives F.Field self.old (Call.Add target a b)) }
         ensures left { Left F.Field M.Method.answers (Call.Add target a b) self.old self.new }
     {
-        if target > 15 || a > 15 || b > 15 {
-            return Err(CallRefusal::NoSuchRegister);
-        }
-        let first = self.registers.read(a);
-        let second = self.registers.read(b);
-        let sum = M::add(self.model.field(), self.model.curve(), first, second);
-        self.registers.put(target, sum)
+        let target = Register::try_from(target)?;
+        let first = self.registers.read(Register::try_from(a)?);
+        let second = self.registers.read(Register::try_from(b)?);
+        let sum = M::add(self.model.field(), self.model.curve(), first, second)?;
+        self.registers.put(target, sum);
+        Ok(())
     }
 
     // Puts the double of a register into the target.
@@ -61,12 +60,11 @@ impl<F: Field, M: Method<F>> Calculator<F, M> {
         ensures answer { Sound F.Field M.Method.answers self.old → result ≡ nothing (gives F.Field self.old (Call.Double target a)) }
         ensures left { Left F.Field M.Method.answers (Call.Double target a) self.old self.new }
     {
-        if target > 15 || a > 15 {
-            return Err(CallRefusal::NoSuchRegister);
-        }
-        let operand = self.registers.read(a);
-        let double = M::double(self.model.field(), self.model.curve(), operand);
-        self.registers.put(target, double)
+        let target = Register::try_from(target)?;
+        let operand = self.registers.read(Register::try_from(a)?);
+        let double = M::double(self.model.field(), self.model.curve(), operand)?;
+        self.registers.put(target, double);
+        Ok(())
     }
 
     // Puts the negative of a register into the target.
@@ -74,21 +72,18 @@ impl<F: Field, M: Method<F>> Calculator<F, M> {
         ensures answer { Sound F.Field M.Method.answers self.old → result ≡ nothing (gives F.Field self.old (Call.Negate target a)) }
         ensures left { Left F.Field M.Method.answers (Call.Negate target a) self.old self.new }
     {
-        if target > 15 || a > 15 {
-            return Err(CallRefusal::NoSuchRegister);
-        }
-        let operand = self.registers.read(a);
+        let target = Register::try_from(target)?;
+        let operand = self.registers.read(Register::try_from(a)?);
         let opposite = negative(self.model.field(), operand);
-        self.registers.put(target, Ok(opposite))
+        self.registers.put(target, opposite);
+        Ok(())
     }
 
     // What a register holds.
     pub fn show(&self, register: u8) -> Result<Divisor, CallRefusal>
         ensures { result ≡ gives F.Field self.now (Call.Show register) }
     {
-        if register > 15 {
-            return Err(CallRefusal::NoSuchRegister);
-        }
+        let register = Register::try_from(register)?;
         Ok(self.registers.read(register))
     }
 

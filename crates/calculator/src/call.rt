@@ -5,7 +5,7 @@ ghost use Rattle.calculator.specs.Calls.{call_refusal_number};
 use methods::{Divisor, DivisorRefusal};
 
 // A call. A target may also be an operand.
-#[derive(Clone, Copy)]
+#[derive(Clone, Copy, Debug, PartialEq, Eq, Hash)]
 pub enum Call {
     // target, divisor
     Enter(u8, Divisor),
@@ -20,7 +20,7 @@ pub enum Call {
 }
 
 // Why a call is refused.
-#[derive(Clone, Copy)]
+#[derive(Clone, Copy, Debug, PartialEq, Eq, Hash)]
 pub enum CallRefusal {
     // 1: a register above 15
     NoSuchRegister,
@@ -40,11 +40,22 @@ impl CallRefusal {
     }
 }
 
+// A divisor that is refused refuses the call.
+impl From<DivisorRefusal> for CallRefusal {
+    ghost use Rattle.calculator.specs.declared.call.CallRefusal.TheVariants.{InvalidDivisor};
+
+    ghost from_gives = { λ refusal r. r ≡ InvalidDivisor refusal };
+
+    fn from(refusal: DivisorRefusal) -> CallRefusal {
+        CallRefusal::InvalidDivisor(refusal)
+    }
+}
+
 // What a call answers: accepted, Show the register's divisor, and the others nothing; or why it is refused.
 pub type Answer = Result<Option<Divisor>, CallRefusal>;
 
 // A call with the place for its answer.
-#[derive(Clone, Copy)]
+#[derive(Clone, Copy, Debug, PartialEq, Eq, Hash)]
 pub struct Exchange {
     pub call: Call,
     pub answer: Answer,
