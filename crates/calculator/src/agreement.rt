@@ -10,7 +10,7 @@ use closed_formulas::Closed;
 use fields::Field;
 use methods::{ByPolynomials, Method};
 
-// A call with the places for the answers of two calculators.
+// A call with the places for the answers of two calculators. An `Exchange` with a pair would number what has names here.
 #[derive(Clone, Copy, Debug, PartialEq, Eq, Hash)]
 pub struct Comparison {
     pub call: Call,
@@ -37,7 +37,8 @@ pub fn compare<F: Field, G: Field, M: Method<F>, N: Method<G>>(
 }
 
 // Sends each call to a calculator with closed formulas over any method and to one with the polynomial method. Over fields of one
-// meaning and on the same curve, fresh ones agree, whatever the method underneath, if it is lawful.
+// meaning and on the same curve, fresh ones agree, whatever the method underneath, if it is lawful. It is `compare` at these
+// methods, but promises more: that either is lawful is proved here, where `compare` leaves it to the caller.
 pub fn agree<F: Field, G: Field, M: Method<F>>(
     closed: &mut Calculator<F, Closed<M>>,
     plain: &mut Calculator<G, ByPolynomials>,

@@ -83,11 +83,11 @@ impl<F: Field, M: Method<F>> Calculator<F, M> {
     pub fn show(&self, register: u8) -> Result<Divisor, CallRefusal>
         ensures { result ≡ gives F.Field self.now (Call.Show register) }
     {
-        let register = Register::try_from(register)?;
-        Ok(self.registers.read(register))
+        Ok(self.registers.read(Register::try_from(register)?))
     }
 
     // One call of any kind.
+    #[tactic(auto, using(crate::proofs::Runs::accounted))]
     pub fn send(&mut self, call: Call) -> Answer
         ensures answer { Sound F.Field M.Method.answers self.old → result ≡ said call (gives F.Field self.old call) }
         ensures left { Left F.Field M.Method.answers call self.old self.new }

@@ -3,6 +3,7 @@ ghost use Rattle.std.specs.Prelude.{◌≡◌};
 ghost use Rattle.calculator.specs.Calls.{call_refusal_number};
 
 use methods::{Divisor, DivisorRefusal};
+use std::fmt;
 
 // A call. A target may also be an operand.
 #[derive(Clone, Copy, Debug, PartialEq, Eq, Hash)]
@@ -19,6 +20,19 @@ pub enum Call {
     Show(u8),
 }
 
+// The name of the call, then its registers and its divisor.
+impl fmt::Display for Call {
+    fn fmt<W: fmt::Write>(&self, f: &mut fmt::Formatter<W>) -> fmt::Result {
+        match self {
+            Call::Enter(target, divisor) => write!(f, "enter {target} {divisor}"),
+            Call::Add(target, a, b) => write!(f, "add {target} {a} {b}"),
+            Call::Double(target, a) => write!(f, "double {target} {a}"),
+            Call::Negate(target, a) => write!(f, "negate {target} {a}"),
+            Call::Show(register) => write!(f, "show {register}"),
+        }
+    }
+}
+
 // Why a call is refused.
 #[derive(Clone, Copy, Debug, PartialEq, Eq, Hash)]
 pub enum CallRefusal {
@@ -29,7 +43,7 @@ pub enum CallRefusal {
 }
 
 impl CallRefusal {
-    // The number of the condition.
+    // The number of the condition. Fields, curves and divisors share these numbers, so it is looked up and is no conversion.
     pub fn number(self) -> u8
         ensures { result ≡ call_refusal_number self }
     {
