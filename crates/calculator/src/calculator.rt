@@ -103,6 +103,7 @@ impl<F: Field, M: Method<F>> Calculator<F, M> {
     }
 
     // Calls one after another, each answered in its place.
+    #[tactic(auto, using(crate::proofs::Loops::all_done, crate::proofs::Runs::accounted_all, crate::proofs::Runs::settled))]
     pub fn send_all(&mut self, exchanges: &mut [Exchange])
         ensures calls { calls_of exchanges.new ≡ calls_of exchanges.old }
         ensures left { LeftAll F.Field M.Method.answers (calls_of exchanges.old) self.old self.new (answers_of exchanges.new) }
