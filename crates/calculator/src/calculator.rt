@@ -18,6 +18,7 @@ pub struct Calculator<F, M> {
     method: PhantomData<M>,
 }
 
+// Every call takes every field and method, lawful or not, so that `Sound` is a premise of the clauses and no invariant of the type.
 impl<F: Field, M: Method<F>> Calculator<F, M> {
     // A fresh calculator on a model.
     pub fn new(model: Model<F>) -> Calculator<F, M>

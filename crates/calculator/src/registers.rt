@@ -5,6 +5,7 @@ ghost use Rattle.calculator.specs.Calls.{at, sixteen_neutral};
 use crate::register::Register;
 use methods::Divisor;
 
+// An array, since no call of a calculator allocates.
 #[derive(Clone, Copy, Debug, PartialEq, Eq, Hash)]
 pub struct Registers {
     divisors: [Divisor; 16],
