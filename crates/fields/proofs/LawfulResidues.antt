@@ -1,9 +1,9 @@
 -- Where a table could be filled, the residues are a lawful field.
-use Rattle.std.proofs.Common.{◌≡◌, ℕ, zero, suc, ◌+◌, ◌-◌, ◌*◌, ◌%◌, ◌<◌, ◌≤◌, true, ◌&&◌, eqb, leb, ◌≢◌, List, get_or, Some, None, sym, refl, ap, ◌∙◌, subst, mod-eq_of_lt, arith}
+use Rattle.std.proofs.Common.{◌≡◌, ℕ, zero, suc, ◌+◌, ◌-◌, ◌*◌, ◌%◌, ◌<◌, ◌≤◌, true, ◌&&◌, eqb, leb, ◌≢◌, List, get_or, Some, None, Option, sym, refl, ap, ◌∙◌, subst, mod-eq_of_lt, arith}
 use Rattle.std.proofs.lemmas.Bool.{and_parts, leb-true, eqb-true}
 use Rattle.std.proofs.lemmas.List.FromFn.{get_or-map-range_with_len}
 use Rattle.fields.specs.Lawful.{Lawful}
-use Rattle.fields.specs.Residues.{Inverse, inverse_modulo, inverses, residues, residues_by, taken, without_inverse, Filled}
+use Rattle.fields.specs.Residues.{Inverse, inverse_modulo, inverses, residues, residues_by, taken, without_inverse, filled_or, Filled, InversesTold}
 use Rattle.fields.proofs.Codes.{Code, code_path}
 use Rattle.fields.proofs.ResidueRing.{ring, ring_laws}
 use Rattle.fields.proofs.Inverses.{answered_least, inverse_is, inverse-below, inverse-none, zero_without, all_good}
@@ -80,11 +80,11 @@ module _ (m : ℕ) (bounds : Taken m) (all : without_inverse m ≡ None) where
       two = among-codes m 1 1 (2 % m) many many ∙ mod-eq_of_lt (omega (arith, bounds.least))
 
 -- The inverses that filling tells of.
-pub all_told : (m : ℕ) → Taken m → without_inverse m ≡ None → (a : ℕ) → 0 < a → a < m → (b : ℕ) × Inverse m a b
+all_told : (m : ℕ) → Taken m → without_inverse m ≡ None → (a : ℕ) → 0 < a → a < m → (b : ℕ) × Inverse m a b
 all_told m bounds all a h l =
     (inverse_modulo m a, (inverse-below m (omega (arith, bounds.least)) a, good m bounds all a h l))
 
-pub first_told : (m a : ℕ) → Taken m → without_inverse m ≡ Some a
+first_told : (m a : ℕ) → Taken m → without_inverse m ≡ Some a
     → (0 < a) × (a < m) × ((b : ℕ) → ¬ Inverse m a b) × ((k : ℕ) → 0 < k → k < a → (b : ℕ) × Inverse m k b)
 unfolding without_inverse
 first_told m a bounds e =
@@ -95,6 +95,14 @@ first_told m a bounds e =
       λ b i. least.bad (ap (λ v. (a * v) % m) (inverse_is m many a b i) ∙ i.1),
       λ k h l. (inverse_modulo m k, (inverse-below m many k, least.before k h l)),
     )
+
+-- What filling answers tells of the inverses.
+pub inverses_told : (m : ℕ) → Taken m → InversesTold m (filled_or (without_inverse m))
+inverses_told m bounds = told (without_inverse m) refl
+  where
+    told : (o : Option ℕ) → without_inverse m ≡ o → InversesTold m (filled_or o)
+    told None e = all_told m bounds e
+    told (Some a) e = first_told m a bounds e
 
 -- The field on a filled table is that of the residues.
 pub filled_residues : (m : ℕ) (table : List ℕ) → Filled m table → residues_by m table ≡ residues m
