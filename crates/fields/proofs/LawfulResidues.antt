@@ -80,11 +80,11 @@ module _ (m : ℕ) (bounds : Taken m) (all : without_inverse m ≡ None) where
       two = among-codes m 1 1 (2 % m) many many ∙ mod-eq_of_lt (omega (arith, bounds.least))
 
 -- The inverses that filling tells of.
-all_told : (m : ℕ) → Taken m → without_inverse m ≡ None → (a : ℕ) → 0 < a → a < m → (b : ℕ) × Inverse m a b
+pub all_told : (m : ℕ) → Taken m → without_inverse m ≡ None → (a : ℕ) → 0 < a → a < m → (b : ℕ) × Inverse m a b
 all_told m bounds all a h l =
     (inverse_modulo m a, (inverse-below m (omega (arith, bounds.least)) a, good m bounds all a h l))
 
-first_told : (m a : ℕ) → Taken m → without_inverse m ≡ Some a
+pub first_told : (m a : ℕ) → Taken m → without_inverse m ≡ Some a
     → (0 < a) × (a < m) × ((b : ℕ) → ¬ Inverse m a b) × ((k : ℕ) → 0 < k → k < a → (b : ℕ) × Inverse m k b)
 unfolding without_inverse
 first_told m a bounds e =

@@ -22,17 +22,16 @@ impl<F: Field> Pairs<F> {
         ensures told { RootTold (F.Field.meaning below) r (pairs_answer (F.Field.meaning below) r) }
         ensures lawful { Lawful (F.Field.meaning below) → IfOk result (λ p. Lawful (pairs (F.Field.meaning p.below) p.q p.r)) }
     {
-        let q = below.size();
-        if q > 255 {
+        let size = below.size();
+        let Ok(q) = u8::try_from(size) else {
             return Err((below, FieldRefusal::TooManyElements));
-        }
-        if r >= q {
+        };
+        if r >= size {
             return Err((below, FieldRefusal::NotACode));
         }
-        if is_square(&below, r, q) {
+        if is_square(&below, r, size) {
             return Err((below, FieldRefusal::Square));
         }
-        let q = q as u8;
         Ok(Pairs { below, q, r })
     }
 

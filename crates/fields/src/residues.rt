@@ -72,10 +72,9 @@ impl<'t> Field for Residues<'t> {
     }
 
     fn inverse(&self, a: u32) -> u32 {
-        if a < self.modulus as u32 && (a as usize) < self.inverses.len() {
-            self.inverses[a as usize] as u32
-        } else {
-            0
+        match self.inverses.get(a as usize) {
+            Some(&b) if a < self.modulus as u32 => b as u32,
+            _ => 0,
         }
     }
 }
