@@ -1,13 +1,12 @@
 -- The loop of long division on ten codes. It divides the codes x by those of y, from the highest of x down.
-use Rattle.std.proofs.Common.{◌≡◌, ℕ, suc, pred, ◌<◌, List, [], ◌∷◌, length, get_or, sym, refl, ap, ◌∙◌, ap₂}
+use Rattle.std.proofs.Common.{◌≡◌, ℕ, suc, pred, ◌<◌, List, ◌∷◌, length, get_or, sym, ap, ◌∙◌, ap₂}
 use Rattle.fields.specs.Arithmetic.{Arithmetic}
 use Rattle.fields.specs.Lawful.{Lawful}
 use Rattle.polynomials.specs.Polynomial.{Polynomial, trim, leading, divide}
-use Rattle.polynomials.specs.Ten.{lowest, Filled}
+use Rattle.polynomials.specs.Ten.{Filled}
 use Rattle.polynomials.proofs.Coefficients.{trim-at, Codes, cons_codes}
 use Rattle.polynomials.proofs.Divisions.{times_in, left_over-at, remainder-codes}
 use Rattle.polynomials.proofs.Filling.{shifted_at}
-use Rattle.polynomials.proofs.Tens.{nothing-at}
 
 -- q and r are the ten lowest coefficients of quotient and remainder of p by d
 pub record Divided (K : Arithmetic) (p d : Polynomial) (q r : List ℕ) : Type 0 where
@@ -20,13 +19,6 @@ module _ (K : Arithmetic) (L : Lawful K) (y : List ℕ) where
   -- the divisor
   abbrev d : Polynomial
   d = trim y
-
-  pub divided-none : Divided K [] d (lowest 10 []) (lowest 10 [])
-  divided-none =
-      record {
-        quotient_at = record { long = refl; each = λ k l. nothing-at 10 k };
-        remainder_at = record { long = refl; each = λ k l. nothing-at 10 k };
-      }
 
   -- One turn, for the coefficient a: s is a + x·r, into which the divisor goes c times.
   module _ {top i : ℕ} (et : top ≡ pred (length d)) (lt : top < 10) (ei : i ≡ inverse (get_or y top 0)) where

@@ -7,7 +7,7 @@ ghost use Rattle.polynomials.specs.Ten.{value, CommonOf, Combines};
 use crate::codes::{Polynomial, clean};
 use crate::division::divide;
 use crate::ring::{difference, multiple, product};
-use crate::shape::{leading, places};
+use crate::shape::{is_zero, leading, places};
 use fields::Field;
 
 // A common divisor of two polynomials a and b with its cofactors: divisor = first·a + second·b.
@@ -23,8 +23,7 @@ fn euclid<F: Field>(field: &F, steps: usize, a: Polynomial, b: Polynomial) -> Co
     ensures { (let K : Arithmetic = F.Field.meaning field.now in Lawful K → CommonOf K (euclid K steps (value K a.codes) (value K b.codes)) a.codes b.codes result.divisor.codes result.first.codes result.second.codes) }
 {
     let whole = clean(field, a);
-    let n = places(field, b);
-    if steps == 0 || n == 0 {
+    if steps == 0 || is_zero(field, b) {
         return Combination {
             divisor: whole,
             first: Polynomial::ONE,

@@ -1,4 +1,5 @@
 // Operations on ten codes, place by place. They read no number: that is the caller's.
+// Each of the first three is one call with its operation as a closure, so no function over an operation stands behind them.
 ghost use Rattle.std.specs.Prelude.{◌≡◌, suc, ◌∷◌, slice_index};
 ghost use Rattle.polynomials.specs.Polynomial.{numeral};
 ghost use Rattle.polynomials.specs.Ten.{Filled};
