@@ -26,7 +26,7 @@ pub fn judge(heap: Global, request: Request) -> Result<Verdict, AllocError>
 }
 
 // The residues modulo m on a table that is filled for them: a lawful field.
-fn residues<'t>(m: u16, table: &'t mut [u16]) -> Result<Residues<'t>, FieldRefusal>
+fn residues(m: u16, table: &mut [u16]) -> Result<Residues<'_>, FieldRefusal>
     ensures answer { MatchResult result (λ _. fill_answer m (length table.old) ≡ Ok tt) (λ e. fill_answer m (length table.old) ≡ Err e) }
     ensures lawful { IfOk result (λ f. (residues_by f.modulus f.inverses.now ≡ residues_modulo m) × Lawful (residues_by f.modulus f.inverses.now)) }
 {
