@@ -72,13 +72,12 @@ impl<F: Field> Field for Pairs<F> {
         let (Some((x, y)), Some((u, v))) = (self.parts(a), self.parts(b)) else {
             return 0;
         };
-        let first = self.below.sum(
-            self.below.product(x, u),
-            self.below.product(self.below.product(y, v), self.r),
+        let below = &self.below;
+        let first = below.sum(
+            below.product(x, u),
+            below.product(below.product(y, v), self.r),
         );
-        let second = self
-            .below
-            .sum(self.below.product(x, v), self.below.product(y, u));
+        let second = below.sum(below.product(x, v), below.product(y, u));
         self.joined(first, second)
     }
 
@@ -94,15 +93,16 @@ impl<F: Field> Field for Pairs<F> {
         let Some((x, y)) = self.parts(a) else {
             return 0;
         };
-        let norm = self.below.sum(
-            self.below.product(x, x),
-            self.below
-                .negative(self.below.product(self.below.product(y, y), self.r)),
+        let below = &self.below;
+        let square = below.product(y, y);
+        let norm = below.sum(
+            below.product(x, x),
+            below.negative(below.product(square, self.r)),
         );
-        let over = self.below.inverse(norm);
+        let over = below.inverse(norm);
         self.joined(
-            self.below.product(x, over),
-            self.below.product(self.below.negative(y), over),
+            below.product(x, over),
+            below.product(below.negative(y), over),
         )
     }
 }

@@ -22,7 +22,7 @@ impl<'t> Residues<'t> {
         ensures filled { is_ok result ≡ true → Filled m table.new }
         ensures told { InversesTold m result }
     {
-        if m % 2 == 0 || m < 3 || m > 8191 {
+        if m % 2 == 0 || !(3..=8191).contains(&m) {
             return Err(FieldRefusal::Modulus);
         }
         if table.len() != m as usize {
@@ -49,7 +49,7 @@ impl<'t> Residues<'t> {
     }
 }
 
-impl<'t> Field for Residues<'t> {
+impl Field for Residues<'_> {
     ghost meaning = { λ f. residues_by f.modulus f.inverses.now };
 
     fn size(&self) -> u32 {
