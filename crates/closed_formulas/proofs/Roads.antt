@@ -1,5 +1,5 @@
 -- What the formulas answer, from what each step of the code promises.
-use Rattle.std.proofs.Common.{◌≡◌, ℕ, Bool, true, false, ◌&&◌, Some, None, sym, ap, ◌∙◌}
+use Rattle.std.proofs.Common.{◌≡◌, ℕ, Bool, true, false, ◌&&◌, Some, None, cond, sym, refl, ap, ◌∙◌, arith}
 use Rattle.std.proofs.lemmas.Bool.{and_from, and_left, and_right, cond-true, cond-false}
 use Rattle.algebra.specs.Ring.{Ops}
 use Rattle.fields.specs.Arithmetic.{Arithmetic}
@@ -7,6 +7,16 @@ use Rattle.mumford.specs.ClosedForms.{Quadratic, Fractions, Line, Quotient, Seco
 use Rattle.methods.specs.declared.curve.Curve.{Curve}
 use Rattle.methods.specs.declared.divisor.Divisor.{Divisor}
 use Rattle.closed_formulas.specs.Formulas.{operations, sextic_letters, letters, quadratic, applicable, slope, lead_inverse, of_degree_2, sum_letters, sum_formula, double_letters, double_formula}
+
+-- what a choice of Some or None tells
+
+pub chosen : {A : Type 0} (b : Bool) {x y : A} → Some y ≡ cond b (Some x) None → (b ≡ true) × (y ≡ x)
+chosen true e = (refl, grind (arith, e))
+chosen false e = absurd (grind (arith, e))
+
+pub left : {A : Type 0} (b : Bool) (x : A) → None ≡ cond b (Some x) None → b ≡ false
+left true x e = absurd (grind (arith, e))
+left false x e = refl
 
 module _ (K : Arithmetic) (C : Curve) where
   abbrev op : Ops ℕ

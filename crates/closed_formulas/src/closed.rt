@@ -1,22 +1,23 @@
 // The layer of closed formulas over a method.
-ghost use Rattle.std.specs.Prelude.{◌≡◌};
+ghost use Rattle.std.specs.Prelude.{◌≡◌, IfSome, is_some};
 ghost use Rattle.fields.specs.Arithmetic.{Arithmetic};
 ghost use Rattle.fields.specs.Lawful.{Lawful};
+ghost use Rattle.mumford.specs.ClosedForms.{quotient as quotient_of};
 ghost use Rattle.methods.specs.Curves.{Accepted};
 ghost use Rattle.methods.specs.Methods.{Law, LawfulMethod};
-ghost use Rattle.closed_formulas.specs.Formulas.{letters as letters_of, quadratic, exact, has_letters, of_degree_2, sum_formula, double_formula, closed};
+ghost use Rattle.closed_formulas.specs.Formulas.{operations, sextic_letters, letters as letters_of, quadratic, has_letters, of_degree_2, sum_formula, double_formula, closed};
 ghost use Rattle.closed_formulas.specs.Letters.{quadratic_of, division_of};
 
 use crate::formulas::{
-    Quadratic, Quotient, divide, divide_again, double_by, double_fractions, is_applicable,
+    Quadratic, Quotient, applicable, divide, divide_again, double_by, double_fractions,
     lead_inverse, slope, sum_by, sum_fractions,
 };
 use fields::Field;
-use methods::{Curve, Divisor, DivisorRefusal, Linear, Method};
+use methods::{Curve, Divisor, DivisorRefusal, Linear, Method, are_codes};
 
 // Sums and doubles of valid divisors of degree 2 by closed formulas, where those apply; everything else as the method underneath
 // answers it.
-#[derive(Clone, Copy)]
+#[derive(Clone, Copy, Debug)]
 pub struct Closed<M> {
     pub method: M,
 }
@@ -35,17 +36,11 @@ impl<F: Field, M: Method<F>> Method<F> for Closed<M> {
     ghost answers = { closed M.Method.answers };
 
     fn add(field: &F, curve: Curve, a: Divisor, b: Divisor) -> Result<Divisor, DivisorRefusal> {
-        match sum_by_formula(field, curve, a, b) {
-            Some(d) => Ok(d),
-            None => M::add(field, curve, a, b),
-        }
+        sum_by_formula(field, curve, a, b).map_or_else(|| M::add(field, curve, a, b), Ok)
     }
 
     fn double(field: &F, curve: Curve, a: Divisor) -> Result<Divisor, DivisorRefusal> {
-        match double_by_formula(field, curve, a) {
-            Some(d) => Ok(d),
-            None => M::double(field, curve, a),
-        }
+        double_by_formula(field, curve, a).map_or_else(|| M::double(field, curve, a), Ok)
     }
 }
 
@@ -53,87 +48,62 @@ impl<F: Field, M: Method<F>> Method<F> for Closed<M> {
 fn sum_by_formula<F: Field>(field: &F, curve: Curve, a: Divisor, b: Divisor) -> Option<Divisor>
     ensures { (let K : Arithmetic = F.Field.meaning field.now in Lawful K → Accepted K curve → result ≡ sum_formula K curve a b) }
 {
-    if !is_of_degree_2(field, curve, a) || !is_of_degree_2(field, curve, b) {
-        return None;
-    }
-    let d1 = letters(a);
-    let d2 = letters(b);
-    let n = sum_fractions(field, d1, d2);
-    if !is_applicable(field, n) {
-        return None;
-    }
+    let (d1, _) = divided(field, curve, a)?;
+    let (d2, _) = divided(field, curve, b)?;
+    let n = applicable(field, sum_fractions(field, d1, d2))?;
     let s = slope(field, d2, n);
     let i = lead_inverse(field, s);
-    Some(divisor(sum_by(field, curve, d1, d2, s, i)))
+    Some(sum_by(field, curve, d1, d2, s, i).into())
 }
 
 // The double, where the divisor is valid and of degree 2, r ≠ 0 and p² ≠ r².
 fn double_by_formula<F: Field>(field: &F, curve: Curve, a: Divisor) -> Option<Divisor>
     ensures { (let K : Arithmetic = F.Field.meaning field.now in Lawful K → Accepted K curve → result ≡ double_formula K curve a) }
 {
-    if !has_letters(field, a) {
-        return None;
-    }
-    let d = letters(a);
-    let q = divide(field, curve, d);
-    if !is_exact(q) {
-        return None;
-    }
+    let (d, q) = divided(field, curve, a)?;
     let t = divide_again(field, d, q);
-    let n = double_fractions(field, d, t);
-    if !is_applicable(field, n) {
-        return None;
-    }
+    let n = applicable(field, double_fractions(field, d, t))?;
     let s = slope(field, d, n);
     let i = lead_inverse(field, s);
-    Some(divisor(double_by(field, d, t, s, i)))
+    Some(double_by(field, d, t, s, i).into())
 }
 
-// Whether a divisor is valid and of degree 2.
-fn is_of_degree_2<F: Field>(field: &F, curve: Curve, a: Divisor) -> bool
-    ensures { (let K : Arithmetic = F.Field.meaning field.now in Lawful K → Accepted K curve → result ≡ of_degree_2 K curve a) }
+// The letters of a divisor that is valid and of degree 2, and f − v² divided by its u, which leaves nothing.
+fn divided<F: Field>(field: &F, curve: Curve, a: Divisor) -> Option<(Quadratic, Quotient)>
+    ensures tells { (let K : Arithmetic = F.Field.meaning field.now in Lawful K → Accepted K curve → is_some result ≡ of_degree_2 K curve a) }
+    ensures letters { IfSome result (λ r. quadratic_of r.0 ≡ letters_of a) }
+    ensures quotient { IfSome result (λ r. division_of r.1 ≡ quotient_of (operations (F.Field.meaning field.now)) (sextic_letters curve) (quadratic_of r.0)) }
 {
-    has_letters(field, a) && is_exact(divide(field, curve, letters(a)))
+    let d = letters(field, a)?;
+    let q = divide(field, curve, d);
+    (q.m == 0 && q.l == 0).then_some((d, q))
 }
 
-// Degree 2, n = 0, and codes for coefficients.
-fn has_letters<F: Field>(field: &F, a: Divisor) -> bool
-    ensures { result ≡ has_letters (F.Field.meaning field.now) a }
+// a, b, c and e of [x² + a·x + b; c·x + e; 0], where the degree is 2, n = 0 and the coefficients are codes.
+fn letters<F: Field>(field: &F, a: Divisor) -> Option<Quadratic>
+    ensures tells { is_some result ≡ has_letters (F.Field.meaning field.now) a }
+    ensures letters { IfSome result (λ d. quadratic_of d ≡ letters_of a) }
 {
-    let size = field.size();
-    a.degree == 2
-        && a.n == 0
-        && (a.u.x1 < size && a.u.x0 < size)
-        && (a.v.x1 < size && a.v.x0 < size)
-}
-
-// Whether u divides f − v².
-fn is_exact(q: Quotient) -> bool
-    ensures { result ≡ exact (division_of q) }
-{
-    q.m == 0 && q.l == 0
-}
-
-// a, b, c and e of [x² + a·x + b; c·x + e; 0]
-fn letters(d: Divisor) -> Quadratic
-    ensures { quadratic_of result ≡ letters_of d }
-{
-    Quadratic {
-        a: d.u.x1,
-        b: d.u.x0,
-        c: d.v.x1,
-        e: d.v.x0,
-    }
+    let Divisor { degree, u, v, n } = a;
+    let lettered = degree == 2 && n == 0 && are_codes(field, &[u.x1, u.x0, v.x1, v.x0]);
+    lettered.then_some(Quadratic {
+        a: u.x1,
+        b: u.x0,
+        c: v.x1,
+        e: v.x0,
+    })
 }
 
 // [x² + a·x + b; c·x + e; 0]
-fn divisor(d: Quadratic) -> Divisor
-    ensures { result ≡ quadratic (quadratic_of d) }
-{
-    Divisor {
-        degree: 2,
-        u: Linear { x1: d.a, x0: d.b },
-        v: Linear { x1: d.c, x0: d.e },
-        n: 0,
+impl From<Quadratic> for Divisor {
+    ghost from_gives = { λ d divisor. divisor ≡ quadratic (quadratic_of d) };
+
+    fn from(d: Quadratic) -> Divisor {
+        Divisor {
+            degree: 2,
+            u: Linear { x1: d.a, x0: d.b },
+            v: Linear { x1: d.c, x0: d.e },
+            n: 0,
+        }
     }
 }

@@ -1,16 +1,16 @@
 // The closed formulas for divisors [x² + a·x + b; c·x + e; 0], in straight-line field operations. Capital letters in comments are
 // those of the second divisor.
-ghost use Rattle.std.specs.Prelude.{◌≡◌};
+ghost use Rattle.std.specs.Prelude.{◌≡◌, if◌then◌else◌};
 ghost use Rattle.fields.specs.Arithmetic.{Arithmetic};
 ghost use Rattle.mumford.specs.ClosedForms.{quotient as quotient_of, second as second_of, remaining as remaining_of, sum_fractions, sum_by, double_fractions, double_by};
-ghost use Rattle.closed_formulas.specs.Formulas.{operations, sextic_letters, applicable, slope as slope_of, lead_inverse};
+ghost use Rattle.closed_formulas.specs.Formulas.{operations, sextic_letters, applicable as applies, slope as slope_of, lead_inverse};
 ghost use Rattle.closed_formulas.specs.Letters.{quadratic_of, fractions_of, line_of, division_of, second_division_of};
 
 use fields::Field;
 use methods::Curve;
 
 // u = x² + a·x + b and v = c·x + e
-#[derive(Clone, Copy)]
+#[derive(Clone, Copy, Debug, PartialEq, Eq)]
 pub struct Quadratic {
     pub a: u32,
     pub b: u32,
@@ -19,7 +19,7 @@ pub struct Quadratic {
 }
 
 // s1 = p/r and s0 = o/r
-#[derive(Clone, Copy)]
+#[derive(Clone, Copy, Debug, PartialEq, Eq)]
 pub struct Fractions {
     pub r: u32,
     pub p: u32,
@@ -27,7 +27,7 @@ pub struct Fractions {
 }
 
 // s = s1·x + s0, with s·(x² + A·x + B) = s1·x³ + L2·x² + L1·x + s0·B
-#[derive(Clone, Copy)]
+#[derive(Clone, Copy, Debug, PartialEq, Eq)]
 pub struct Line {
     pub s1: u32,
     pub s0: u32,
@@ -36,7 +36,7 @@ pub struct Line {
 }
 
 // f − v² = (x⁴ − a·x³ + k·x² + h·x + j)·u + m·x + l
-#[derive(Clone, Copy)]
+#[derive(Clone, Copy, Debug, PartialEq, Eq)]
 pub struct Quotient {
     pub k: u32,
     pub h: u32,
@@ -46,7 +46,7 @@ pub struct Quotient {
 }
 
 // x⁴ − a·x³ + k·x² + h·x + j = (x² − 2·a·x + g)·u + K1·x + K0
-#[derive(Clone, Copy)]
+#[derive(Clone, Copy, Debug, PartialEq, Eq)]
 pub struct Second {
     pub g: u32,
     pub k1: u32,
@@ -210,9 +210,10 @@ pub fn double_by<F: Field>(field: &F, d: Quadratic, t: Second, s: Line, i: u32) 
     remaining(field, d, s, a, b)
 }
 
-// r ≠ 0 and p² ≠ r²
-pub fn is_applicable<F: Field>(field: &F, n: Fractions) -> bool
-    ensures { result ≡ applicable (F.Field.meaning field.now) (fractions_of n) }
+// The fractions, where r ≠ 0 and p² ≠ r².
+pub fn applicable<F: Field>(field: &F, n: Fractions) -> Option<Fractions>
+    ensures { result ≡ (if applies (F.Field.meaning field.now) (fractions_of n) then Some n else None) }
 {
-    n.r != 0 && field.product(n.p, n.p) != field.product(n.r, n.r)
+    let applies = n.r != 0 && field.product(n.p, n.p) != field.product(n.r, n.r);
+    applies.then_some(n)
 }

@@ -34,38 +34,30 @@ mod tests {
     }
 
     // What the method underneath answers: refusal 4.
-    const UNDERNEATH: [u32; 6] = [4, 0, 0, 0, 0, 0];
-
-    // Degree, the coefficients of u and v, and n of an answer; or the number of a refusal and zeros.
-    fn row(answer: Result<Divisor, DivisorRefusal>) -> [u32; 6] {
-        match answer {
-            Ok(d) => [d.degree as u32, d.u.x1, d.u.x0, d.v.x1, d.v.x0, d.n as u32],
-            Err(refusal) => [refusal.number() as u32, 0, 0, 0, 0, 0],
-        }
-    }
+    const UNDERNEATH: Result<Divisor, DivisorRefusal> = Err(DivisorRefusal::Shape);
 
     // By the formulas alone: over a method that refuses everything with 4.
-    fn sum(d: Divisor, e: Divisor) -> [u32; 6] {
+    fn sum(d: Divisor, e: Divisor) -> Result<Divisor, DivisorRefusal> {
         let field = Residues::on(7, &TABLE);
-        row(<Closed<Refusing> as Method<Residues>>::add(&field, CURVE, d, e))
+        <Closed<Refusing> as Method<Residues>>::add(&field, CURVE, d, e)
     }
 
-    fn double(d: Divisor) -> [u32; 6] {
+    fn double(d: Divisor) -> Result<Divisor, DivisorRefusal> {
         let field = Residues::on(7, &TABLE);
-        row(<Closed<Refusing> as Method<Residues>>::double(&field, CURVE, d))
+        <Closed<Refusing> as Method<Residues>>::double(&field, CURVE, d)
     }
 
     #[test]
     fn the_formulas_answer_a_sum(rt: HostRuntime) {
         assert_eq!(rt;
             sum(quadratic(6, 0, 2, 1), quadratic(2, 6, 1, 1)),
-            [2, 0, 1, 0, 0, 0]
+            Ok(quadratic(0, 1, 0, 0))
         );
     }
 
     #[test]
     fn the_formulas_answer_a_double(rt: HostRuntime) {
-        assert_eq!(rt; double(quadratic(6, 0, 2, 1)), [2, 0, 3, 5, 0, 0]);
+        assert_eq!(rt; double(quadratic(6, 0, 2, 1)), Ok(quadratic(0, 3, 5, 0)));
     }
 
     // u1 = u2, so that r = 0; v = 0, so that r = 0 for the double; and a sum of degree 1, where p² = r².

@@ -1,5 +1,5 @@
 -- What the calls of a reduction give together, and how long w is.
-use Rattle.std.proofs.Common.{◌≡◌, ℕ, zero, suc, ◌-◌, ◌≤◌, Bool, true, false, cond, eqb, ◌≢◌, List, length, get_or, ℤ, pos, negsuc, ◌<ℤ◌, ◌≤ℤ◌, refl, ap, ◌∙◌, arith, eq-eqb, ne_eqb}
+use Rattle.std.proofs.Common.{◌≡◌, ℕ, zero, suc, ◌-◌, ◌≤◌, true, false, cond, eqb, ◌≢◌, List, length, get_or, ℤ, pos, negsuc, ◌<ℤ◌, ◌≤ℤ◌, refl, ap, ◌∙◌, arith, eq-eqb, ne_eqb}
 use Rattle.std.proofs.lemmas.Int.{ints}
 use Rattle.std.specs.Int.RustNames.{unsigned_abs}
 use native.Mathlib.Decide.{ℕ_discrete}
@@ -20,7 +20,7 @@ use Rattle.methods.specs.declared.divisor.Divisor.{Divisor}
 use Rattle.methods.specs.declared.composition.Composition.{Composition}
 use Rattle.methods.specs.Curves.{sextic, root}
 use Rattle.methods.specs.Divisors.{divisor_of}
-use Rattle.methods.specs.Sums.{Composite, Fair, deg, monic, lifted, stepped_by, stepped, in_range, reduced}
+use Rattle.methods.specs.Sums.{Composite, Fair, deg, monic, lifted, stepped_by, stepped}
 use Rattle.methods.specs.Steps.{one_more, composite_of}
 
 -- v − (−V) is v + V
@@ -41,10 +41,6 @@ one_more-below (negsuc n) h = refl
 pub one_more-above : (n : ℤ) → pos 0 ≤ℤ n → one_more n ≡ suc (unsigned_abs n)
 one_more-above (pos n) h = refl
 one_more-above (negsuc n) h = omega (arith, ints, h)
-
-pub one_more_less : (n : ℤ) → 1 ≤ one_more n → unsigned_abs n ≡ one_more n - 1
-one_more_less (pos n) h = omega arith
-one_more_less (negsuc n) h = omega arith
 
 module _ (K : Arithmetic) (V : Polynomial) (c : Composite) where
   -- w in the three cases
@@ -102,17 +98,3 @@ module _ (K : Arithmetic) (C : Curve) (c : Composition) where
       → D ≡ stepped K (sextic K C) (root K C) (composite_of K c)
   unfolding stepped stepped_by
   step_is w u o v n D W U O V N M = cc
-
-module _ (K : Arithmetic) (C : Curve) (c : Composite) where
-  -- the choice between a composite in range and a step
-
-  abbrev choice : Bool → Divisor
-  choice b = elim b [ true ↦ divisor_of c.u c.v (c.n+1 - 1) | false ↦ stepped K (sextic K C) (root K C) c ]
-
-  pub reduced-in_range : true ≡ in_range c → divisor_of c.u c.v (c.n+1 - 1) ≡ reduced K C c
-  unfolding reduced
-  reduced-in_range e = ap choice e
-
-  pub reduced_due : false ≡ in_range c → stepped K (sextic K C) (root K C) c ≡ reduced K C c
-  unfolding reduced
-  reduced_due e = ap choice e

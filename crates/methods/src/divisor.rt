@@ -95,6 +95,7 @@ impl Divisor {
     }
 
     // The divisor of a monic u of degree at most 2, a v of a smaller degree, and n.
+    #[tactic(auto, unfolding(crate::specs::Divisors::divisor_of))]
     pub fn from_polynomials<F: Field>(field: &F, u: Polynomial, v: Polynomial, n: u8) -> Divisor
         ensures { (let K : Arithmetic = F.Field.meaning field.now in result ≡ divisor_of (value K u.codes) (value K v.codes) n) }
     {
@@ -122,6 +123,7 @@ impl fmt::Display for Divisor {
 }
 
 // The divisor, if it is valid on the curve; or else why it is not: 4, then 5, then 9.
+#[tactic(auto, unfolding(crate::specs::Divisors::entered))]
 pub fn entered<F: Field>(field: &F, curve: Curve, d: Divisor) -> Result<Divisor, DivisorRefusal>
     ensures { Lawful (F.Field.meaning field.now) → result ≡ entered_as (F.Field.meaning field.now) curve d }
 {
@@ -138,6 +140,7 @@ pub fn entered<F: Field>(field: &F, curve: Curve, d: Divisor) -> Result<Divisor,
 }
 
 // [u; −v; 2 − deg u − n]
+#[tactic(auto, unfolding(crate::specs::Divisors::opposite))]
 pub fn negative<F: Field>(field: &F, d: Divisor) -> Divisor
     ensures { result ≡ opposite (F.Field.meaning field.now) d }
 {

@@ -121,6 +121,7 @@ fn has_codes<F: Field>(field: &F, curve: Curve) -> bool
 }
 
 // Whether f and its derivative have no common factor.
+#[tactic(auto, unfolding(crate::specs::Curves::smooth))]
 fn is_smooth<F: Field>(field: &F, curve: Curve) -> bool
     ensures { Lawful (F.Field.meaning field.now) → result ≡ smooth (F.Field.meaning field.now) curve }
 {

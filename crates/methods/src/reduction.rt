@@ -18,6 +18,7 @@ use polynomials::{
 };
 
 // The composite as a divisor, if it is in range; otherwise what one step makes of it.
+#[tactic(auto, unfolding(crate::specs::Sums::reduced))]
 pub fn reduce<F: Field>(field: &F, curve: Curve, c: Composition) -> Divisor
     ensures { (let K : Arithmetic = F.Field.meaning field.now in Lawful K → Fair (composite_of K c) → result ≡ reduced K curve (composite_of K c)) }
 {

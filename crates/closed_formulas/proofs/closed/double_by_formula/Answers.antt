@@ -1,41 +1,29 @@
 -- The answer is that of the double's formula, on each way through the tests.
-use Rattle.std.proofs.Common.{sym, ◌∙◌}
-use Rattle.closed_formulas.proofs.Representations.{accepted_coded}
-use Rattle.closed_formulas.proofs.Validity.{test_goes_on, test_ends}
-use Rattle.closed_formulas.proofs.Roads.{double_not_valid, double_not_applicable, double_road}
+use Rattle.std.proofs.Common.{sym, ap, ◌∙◌}
+use Rattle.closed_formulas.specs.Formulas.{slope}
+use Rattle.closed_formulas.specs.Letters.{quadratic_of, fractions_of}
+use Rattle.closed_formulas.proofs.Roads.{chosen, left, double_not_valid, double_not_applicable, double_road}
 use Rattle.closed_formulas.proofs.closed.double_by_formula.Goals as goal
 
-pub returns-then-not-has_letters : goal.returns-then-not-has_letters
-returns-then-not-has_letters g c L accepted =
+pub returns-in_err-d : goal.returns-in_err-d
+returns-in_err-d g c L accepted =
     let K = g.F.Field.meaning c.args.field.now in
-    let h = accepted_coded K L c.args.curve accepted in
-    double_not_valid K c.args.curve c.args.a
-    (sym (test_ends K L h c.args.a (sym c.has_letters.ensures ∙ c.if-not-has_letters.true)))
+    c.from_residual.ensures ∙ double_not_valid K c.args.curve c.args.a (sym (c.in_err-d.ensures.tells L accepted))
 
-pub returns-then-not-is_exact : goal.returns-then-not-is_exact
-returns-then-not-is_exact g c L accepted =
+pub returns-in_err-n : goal.returns-in_err-n
+returns-in_err-n g c L accepted =
     let K = g.F.Field.meaning c.args.field.now in
-    let h = accepted_coded K L c.args.curve accepted in
-    double_not_valid K c.args.curve c.args.a
-    (sym (c.is_exact.ensures
-    ∙ test_goes_on K L h c.args.a c.letters-d.ensures c.divide-q.ensures
-    (sym c.has_letters.ensures ∙ c.if-not-has_letters.false)) ∙ c.if-not-is_exact.true)
-
-pub returns-then-not-is_applicable : goal.returns-then-not-is_applicable
-returns-then-not-is_applicable g c L accepted =
-    let K = g.F.Field.meaning c.args.field.now in
-    double_not_applicable K c.args.curve c.args.a c.letters-d.ensures c.divide-q.ensures
-    c.divide_again-t.ensures c.double_fractions-n.ensures
-    (sym c.is_applicable.ensures ∙ c.if-not-is_applicable.true)
+    let quotient = c.in_ok-d.ensures.quotient in
+    c.from_residual-in_err-n.ensures
+    ∙ double_not_applicable K c.args.curve c.args.a c.in_ok-d.ensures.letters quotient c.divide_again-t.ensures
+    c.double_fractions.ensures (left _ _ c.in_err-n.ensures)
 
 pub returns : goal.returns
 returns g c L accepted =
     let K = g.F.Field.meaning c.args.field.now in
-    let h = accepted_coded K L c.args.curve accepted in
-    double_road K c.args.curve c.args.a c.letters-d.ensures c.divide-q.ensures c.divide_again-t.ensures
-    c.double_fractions-n.ensures
-    (sym (c.is_exact.ensures
-    ∙ test_goes_on K L h c.args.a c.letters-d.ensures c.divide-q.ensures
-    (sym c.has_letters.ensures ∙ c.if-not-has_letters.false)) ∙ c.if-not-is_exact.false)
-    (sym c.is_applicable.ensures ∙ c.if-not-is_applicable.false)
-    c.slope-s.ensures c.lead_inverse-i.ensures c.double_by.ensures c.divisor.ensures
+    let quotient = c.in_ok-d.ensures.quotient in
+    let (test, same) = chosen _ c.in_ok-n.ensures in
+    double_road K c.args.curve c.args.a c.in_ok-d.ensures.letters quotient c.divide_again-t.ensures
+    c.double_fractions.ensures (sym (c.in_ok-d.ensures.tells L accepted)) test
+    (c.slope-s.ensures ∙ ap (λ n. slope K (quadratic_of c.in_ok-d.d) (fractions_of n)) same) c.lead_inverse-i.ensures
+    c.double_by.ensures c.into.ensures
