@@ -1,6 +1,7 @@
 -- The loop of a run: what it still has to write leads to the bytes of the whole sheet.
 use Rattle.std.proofs.Common.{◌≡◌, ℕ, ◌+◌, ◌*◌, ◌≤◌, List, ◌++◌, length, sym, ap, ◌∙◌, subst, arith, length-append}
 use Rattle.run.specs.declared.reply.Reply.{Reply}
+use Rattle.run.specs.declared.refusal.Refusal.TheVariants.{Short, Unknown}
 use Rattle.run.specs.declared.reply.Reply.TheVariants.{Silent, Refused}
 use Rattle.run.specs.Buffers.{overwritten}
 use Rattle.run.specs.Records.{Command, end, whole, short, unknown, reading}
@@ -20,12 +21,12 @@ module _ (rest : List ℕ) (r : Reply) where
   pub last_end : end ≡ reading rest → r ≡ Silent → Last rest r
   last_end e is = rw is (record { fits = omega arith; runs = λ p. run_end p rest (sym e) })
 
-  pub last_short : (kind : ℕ) → short kind ≡ reading rest → r ≡ Refused kind 10 → Last rest r
+  pub last_short : (kind : ℕ) → short kind ≡ reading rest → r ≡ Refused kind Short → Last rest r
   last_short kind e is =
       let some = short_some rest kind (sym e) in
       rw is (record { fits = omega arith; runs = λ p. run_short p rest kind (sym e) })
 
-  pub last_unknown : (kind : ℕ) → unknown kind ≡ reading rest → r ≡ Refused kind 11 → Last rest r
+  pub last_unknown : (kind : ℕ) → unknown kind ≡ reading rest → r ≡ Refused kind Unknown → Last rest r
   last_unknown kind e is =
       let some = unknown_some rest kind (sym e) in
       rw is (record { fits = omega arith; runs = λ p. run_unknown p rest kind (sym e) })

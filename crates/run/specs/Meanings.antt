@@ -1,4 +1,6 @@
 -- What the values of the program stand for: records, and what is read of a sheet.
+use Rattle.std.specs.Prelude.{ℕ, List, Some, None, Ok, Err, Option, Result}
+use Rattle.std.specs.Borrow.{Bor}
 use Rattle.calculator.specs.declared.call.Call.{Call}
 use Rattle.calculator.specs.declared.call.Call.TheVariants.{Enter as EnterCall, Add as AddCall, Double as DoubleCall, Negate as NegateCall, Show as ShowCall}
 use Rattle.run.specs.Bytes.{curve_at, divisor_at}
@@ -7,8 +9,8 @@ use Rattle.run.specs.declared.record.CallRecord.{CallRecord}
 use Rattle.run.specs.declared.record.CallRecord.TheVariants.{Enter, Add, Double, Negate, Show}
 use Rattle.run.specs.declared.record.Record.{Record}
 use Rattle.run.specs.declared.record.Record.TheVariants.{Residues, Nine, Pairs, Curve, Call as CallOf}
-use Rattle.run.specs.declared.record.Front.{Front}
-use Rattle.run.specs.declared.record.Front.TheVariants.{End, Whole, Short, Unknown}
+use Rattle.run.specs.declared.record.Unreadable.{Unreadable}
+use Rattle.run.specs.declared.record.Unreadable.TheVariants.{Short, Unknown}
 
 abbrev pub called_by : CallRecord → Call
 called_by (Enter t body) = EnterCall t (divisor_at body.now)
@@ -24,8 +26,8 @@ said_by (Pairs r) = square_root r
 said_by (Curve body) = coefficients (curve_at body.now)
 said_by (CallOf r) = call (called_by r)
 
-abbrev pub read_as : Front → Reading
-read_as End = end
-read_as (Whole r rest) = whole (said_by r) rest.now
-read_as (Short k) = short k
-read_as (Unknown k) = unknown k
+abbrev pub read_as : Result (Option (Record × Bor (List ℕ))) Unreadable → Reading
+read_as (Ok None) = end
+read_as (Ok (Some (r, rest))) = whole (said_by r) rest.now
+read_as (Err (Short k)) = short k
+read_as (Err (Unknown k)) = unknown k
