@@ -44,9 +44,10 @@ module _ (sheet output : List ℕ) (long : length output ≡ 24576) where
             let ran : program_bytes sheet ≡ run_bytes sheet =
             ap (λ t. cond t (run_bytes sheet) (reply_bytes (Refused 0 (Sheet SheetLength)))) (le-leb (length sheet) 4096 short) in
             let taken = e ∙ by_size_taken sheet output _ _ _ long short in
-            let count : n ≡ length (run_bytes sheet) = cc in
-            (count ∙ sym (ap length ran),
-             by_size_taken sheet output _ _ _ long short ∙ sym (ap (overwritten output 0) ran ∙ overwritten_first output (run_bytes sheet)))
+            let count : n ≡ length (run_bytes sheet) = cc in (
+              count ∙ sym (ap length ran),
+              by_size_taken sheet output _ _ _ long short ∙ sym (ap (overwritten output 0) ran ∙ overwritten_first output (run_bytes sheet)),
+            )
       ]
 
   pub program_refused : (w : SheetRefusal) → Err w ≡ run_result sheet output
@@ -55,8 +56,10 @@ module _ (sheet output : List ℕ) (long : length output ≡ 24576) where
       elim (cases_lt 4096 (length sheet)) [
         | inl more ↦
             let refused = e ∙ by_size_refused sheet output _ _ _ long more in
-            let same : w ≡ SheetLength = cc in
-            (same, by_size_refused sheet output _ _ _ long more,
-             ap (λ t. cond t (run_bytes sheet) (reply_bytes (Refused 0 (Sheet SheetLength)))) (lt-leb (length sheet) 4096 more))
+            let same : w ≡ SheetLength = cc in (
+              same,
+              by_size_refused sheet output _ _ _ long more,
+              ap (λ t. cond t (run_bytes sheet) (reply_bytes (Refused 0 (Sheet SheetLength)))) (lt-leb (length sheet) 4096 more),
+            )
         | inr short ↦ let taken = e ∙ by_size_taken sheet output _ _ _ long short in absurd cc
       ]

@@ -42,17 +42,17 @@ impl Record<'_> {
             Record::Nine => 2,
             Record::Pairs(_) => 3,
             Record::Curve(_) => 4,
-            Record::Call(call) => kind_of(call.call()),
+            Record::Call(call) => kind_of(call.into()),
         }
     }
 }
 
-impl CallRecord<'_> {
-    // The call that the record makes.
-    pub fn call(self) -> Call
-        ensures { result ≡ called_by self.entry }
-    {
-        match self {
+// The call that a record makes.
+impl<'s> From<CallRecord<'s>> for Call {
+    ghost from_gives = { λ r call. call ≡ called_by r };
+
+    fn from(r: CallRecord<'s>) -> Call {
+        match r {
             CallRecord::Enter(t, body) => Call::Enter(t, divisor(body)),
             CallRecord::Add(t, a, b) => Call::Add(t, a, b),
             CallRecord::Double(t, a) => Call::Double(t, a),
