@@ -1,8 +1,9 @@
 // Records, read from the front of a sheet.
-ghost use Rattle.std.specs.Prelude.{◌≡◌, ◌+◌, ◌*◌, ◌/◌, ◌%◌};
+ghost use Rattle.std.specs.Prelude.{◌≡◌, ◌+◌, ◌*◌, ◌/◌, ◌%◌, length};
+ghost use Rattle.std.specs.Iterator.{at_most};
 ghost use Rattle.run.specs.Bytes.{curve_at, divisor_at, divisor_bytes};
 ghost use Rattle.run.specs.Records.{kind_of_call, kind_of, reading};
-ghost use Rattle.run.specs.Meanings.{called_by, said_by, read_as};
+ghost use Rattle.run.specs.Meanings.{called_by, said_by, read_as, NextRecord};
 
 use calculator::Call;
 use methods::{Curve, Divisor, Linear};
@@ -111,6 +112,34 @@ pub fn read<'s>(sheet: &'s [u8]) -> Result<Option<(Record<'s>, &'s [u8])>, Unrea
         [9, a, rest @ ..] => Ok(Some((Record::Call(CallRecord::Show(*a)), rest))),
         [kind @ 1..=9, ..] => Err(Unreadable::Short(*kind)),
         [kind, ..] => Err(Unreadable::Unknown(*kind)),
+    }
+}
+
+// The records of a sheet, one after another. Where the sheet has no whole record more but bytes, the last item says why.
+#[derive(Clone, Copy)]
+pub(crate) struct Records<'s> {
+    pub(crate) rest: &'s [u8],
+}
+
+impl<'s> Iterator for Records<'s> {
+    type Item = Result<Record<'s>, Unreadable>;
+
+    ghost next_gives = { NextRecord };
+
+    ghost remaining = { λ s. at_most (length s.rest.now) };
+
+    fn next(&mut self) -> Option<Result<Record<'s>, Unreadable>> {
+        match read(self.rest) {
+            Ok(None) => None,
+            Ok(Some((record, rest))) => {
+                self.rest = rest;
+                Some(Ok(record))
+            }
+            Err(why) => {
+                self.rest = &[];
+                Some(Err(why))
+            }
+        }
     }
 }
 

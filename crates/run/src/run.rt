@@ -7,7 +7,7 @@ ghost use Rattle.run.specs.Buffers.{overwritten};
 ghost use Rattle.run.specs.Laws.{Laws};
 
 use crate::field::Chosen;
-use crate::record::{Unreadable, read};
+use crate::record::{Records, Unreadable};
 use crate::refusal::{Refusal, SheetRefusal};
 use crate::reply::Reply;
 use crate::stage::Stage;
@@ -84,20 +84,15 @@ fn obey_all<T: Ground<R> + Drop, R: Field + Drop, M: Method<Chosen<R>> + Drop>(
     ensures bytes { LawfulMethod M.Method.answers → output.new ≡ overwritten output.old 0 (run_bytes sheet.now) }
 {
     let mut stage: Stage<T, R, M> = Stage::Start(ground);
-    let mut rest = sheet;
     let mut n = 0;
-    let last = 'records: loop {
-        match read(rest) {
-            Ok(None) => break Reply::Silent,
-            Err(Unreadable::Short(kind)) => break Reply::Refused(kind, Refusal::Short),
-            Err(Unreadable::Unknown(kind)) => break Reply::Refused(kind, Refusal::Unknown),
-            Ok(Some((record, after))) => {
-                let (next, reply) = stage.obey(record);
-                stage = next;
-                rest = after;
-                n = reply.write(output, n);
-            }
-        }
-    };
-    last.write(output, n)
+    for record in (Records { rest: sheet }) {
+        let (next, reply) = match record {
+            Ok(record) => stage.obey(record),
+            Err(Unreadable::Short(kind)) => (stage, Reply::Refused(kind, Refusal::Short)),
+            Err(Unreadable::Unknown(kind)) => (stage, Reply::Refused(kind, Refusal::Unknown)),
+        };
+        stage = next;
+        n = reply.write(output, n);
+    }
+    n
 }
