@@ -8,6 +8,7 @@ pub use reply::Reply;
 pub use run::{answer, run_by, zafindoro_run};
 
 mod field;
+mod output;
 mod record;
 mod refusal;
 mod reply;

@@ -143,14 +143,14 @@ impl<'s> Iterator for Records<'s> {
     }
 }
 
-// A code from its two bytes.
+// A code from its two bytes, low byte first.
 fn code(low: u8, high: u8) -> u32
     ensures { result ≡ low + high * 256 }
 {
     u32::from(u16::from_le_bytes([low, high]))
 }
 
-// The curve of ten bytes, f4 to f0.
+// The curve of ten bytes, f4 to f0. A function and no From, as the two below: neither side is a type of this crate.
 pub fn curve(body: &[u8; 10]) -> Curve
     ensures { result ≡ curve_at body.now }
 {

@@ -17,7 +17,7 @@ pub enum SheetRefusal {
 }
 
 impl SheetRefusal {
-    // The number of the condition.
+    // The number of the condition, which a conversion would not name.
     pub fn number(self) -> u8
         ensures { result ≡ sheet_refusal_number self }
     {
@@ -27,7 +27,7 @@ impl SheetRefusal {
         }
     }
 
-    // What the call of a host program answers, above the length of every output.
+    // What the call of a host program answers: a number above the length of every output, since C has no Result.
     pub fn host_answer(self) -> u32
         ensures { result ≡ host_answer (Err self) }
     {
@@ -55,7 +55,7 @@ pub enum Refusal {
 }
 
 impl Refusal {
-    // The number of the condition.
+    // The number of the condition, which a conversion would not name.
     pub fn number(self) -> u8
         ensures { result ≡ run_refusal_number self }
     {
@@ -71,6 +71,7 @@ impl Refusal {
     }
 }
 
+// The refusals of fields, curves, calls and sheets, as those of a run.
 impl From<FieldRefusal> for Refusal {
     ghost from_gives = { λ why refusal. refusal ≡ Field why };
 

@@ -7,6 +7,7 @@ ghost use Rattle.run.specs.Buffers.{overwritten};
 ghost use Rattle.run.specs.Laws.{Laws};
 
 use crate::field::Chosen;
+use crate::output::Output;
 use crate::record::{Records, Unreadable};
 use crate::refusal::{Refusal, SheetRefusal};
 use crate::reply::Reply;
@@ -36,7 +37,14 @@ pub fn answer(sheet: &[u8], output: &mut [u8; 24576]) -> usize
 {
     match run_closed(sheet, output) {
         Ok(n) => n,
-        Err(why) => Reply::Refused(0, why.into()).write(output, 0),
+        Err(why) => {
+            let mut out = Output {
+                bytes: output,
+                written: 0,
+            };
+            out.write(Reply::Refused(0, why.into()));
+            out.written
+        }
     }
 }
 
@@ -84,7 +92,10 @@ fn obey_all<T: Ground<R> + Drop, R: Field + Drop, M: Method<Chosen<R>> + Drop>(
     ensures bytes { LawfulMethod M.Method.answers → output.new ≡ overwritten output.old 0 (run_bytes sheet.now) }
 {
     let mut stage: Stage<T, R, M> = Stage::Start(ground);
-    let mut n = 0;
+    let mut out = Output {
+        bytes: output,
+        written: 0,
+    };
     for record in (Records { rest: sheet }) {
         let (next, reply) = match record {
             Ok(record) => stage.obey(record),
@@ -92,7 +103,7 @@ fn obey_all<T: Ground<R> + Drop, R: Field + Drop, M: Method<Chosen<R>> + Drop>(
             Err(Unreadable::Unknown(kind)) => (stage, Reply::Refused(kind, Refusal::Unknown)),
         };
         stage = next;
-        n = reply.write(output, n);
+        out.write(reply);
     }
-    n
+    out.written
 }

@@ -32,6 +32,7 @@ impl<T: Ground<R> + Drop, R: Field + Drop, M: Method<Chosen<R>> + Drop> Stage<T,
         ensures obeyed { LawfulMethod M.Method.answers → Standing (progress_at R.Field self) → Obeyed (progress_at R.Field self) (said_by arriving.entry) (progress_at R.Field result.0) result.1 }
         ensures fits { length (reply_bytes result.1) ≤ 6 * least_size (said_by arriving.entry) }
     {
+        // A wildcard for each stage: behind one for all four, the prover has no named fact on the record.
         match (self, arriving) {
             (Stage::Start(ground), Record::Residues(m)) => Stage::on_residues(ground, m),
             (Stage::Start(_), Record::Nine) => Stage::on_nine(),
