@@ -1,6 +1,7 @@
 -- What the calls of a composition give together: each lemma takes what the calls in a row promise and ends in what the
 -- function promises.
-use Rattle.std.proofs.Common.{◌≡◌, ℕ, ◌+◌, ◌-◌, ◌≤◌, List, [], ◌∷◌, length, refl, ap, arith}
+use Rattle.std.proofs.Common.{◌≡◌, ℕ, ◌+◌, ◌-◌, ◌≤◌, List, [], ◌∷◌, length, ℤ, pos, negsuc, ◌-ℤ◌, refl, ap, arith}
+use Rattle.std.proofs.lemmas.Int.{ints}
 use Rattle.algebra.specs.Ring.{Ops, Laws}
 use Rattle.algebra.proofs.Reify.{by_ring, terms}
 use Rattle.fields.specs.Arithmetic.{Arithmetic}
@@ -19,9 +20,14 @@ use Rattle.methods.specs.declared.composition.Composition.{Composition}
 use Rattle.methods.specs.Curves.{sextic}
 use Rattle.methods.specs.Divisors.{u_of, v_of}
 use Rattle.methods.specs.Sums.{bezout, Combining, numerator, composed_by}
-use Rattle.methods.specs.Steps.{bezout_of, composite_of, Short}
+use Rattle.methods.specs.Steps.{bezout_of, one_more, composite_of, Short}
 use Rattle.methods.proofs.Curves.{sextic-length}
 use Rattle.methods.proofs.Reading.{u-short, v-short}
+
+-- n from n + 1
+pub one_more_is : (n : ℤ) (m : ℕ) → n ≡ pos m -ℤ pos 1 → one_more n ≡ m
+one_more_is (pos n) m e = omega (arith, ints, e)
+one_more_is (negsuc n) m e = omega (arith, ints, e)
 
 module _ {C : Type 0} {o : Ops C} where
   infixl 75 ◌⊹◌
@@ -54,7 +60,7 @@ module _ (K : Arithmetic) (L : Lawful K) where
         (N : value K n ≡ numerator K (sextic K C) (bezout_of K z) (u_of K D) (v_of K D) (u_of K E) (v_of K E))
         (S : Is K s (quotient K (value K n) (value K z.d.codes)))
         (V : Is K c.v.codes (remainder K (value K s) (value K c.u.codes)))
-        (M : c.n_plus_one ≡ D.n + E.n + (length (value K z.d.codes) - 1))
+        (M : one_more c.n ≡ D.n + E.n + (length (value K z.d.codes) - 1))
       where
         pub composition_is : composite_of K c ≡ composed_by K (bezout_of K z) (sextic K C) D E
         unfolding composed_by

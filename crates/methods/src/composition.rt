@@ -22,12 +22,12 @@ pub struct Cofactors {
     pub e3: Polynomial,
 }
 
-// A divisor by its polynomials. Its n may be −1, so it is kept with one added.
+// A divisor by its polynomials, whose n may be −1.
 #[derive(Clone, Copy)]
 pub struct Composition {
     pub u: Polynomial,
     pub v: Polynomial,
-    pub n_plus_one: u16,
+    pub n: i16,
 }
 
 // The monic greatest common divisor of u1, u2 and v1 + v2, with cofactors.
@@ -80,6 +80,6 @@ pub fn compose<F: Field>(field: &F, curve: Curve, a: Divisor, b: Divisor) -> Com
     Composition {
         u,
         v,
-        n_plus_one: u16::from(a.n) + u16::from(b.n) + u16::from(degree_of(field, z.d)),
+        n: i16::from(a.n) + i16::from(b.n) + i16::from(degree_of(field, z.d)) - 1,
     }
 }

@@ -26,7 +26,8 @@ pub enum CurveRefusal {
 }
 
 impl CurveRefusal {
-    // The number of the condition.
+    // The number of the condition. A method and no conversion: the number alone does not say which refusal it is, since a
+    // divisor has a refusal 5 too.
     pub fn number(self) -> u8
         ensures { result ≡ curve_refusal_number self }
     {

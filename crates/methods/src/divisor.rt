@@ -5,9 +5,10 @@ ghost use Rattle.fields.specs.Lawful.{Lawful};
 ghost use Rattle.polynomials.specs.Ten.{value};
 ghost use Rattle.methods.specs.Divisors.{u_of, v_of, divisor_of, shaped, unused, linear_codes, on_curve, entered as entered_as, Valid, neutral as neutral_divisor, opposite, divisor_refusal_number};
 
+use crate::codes::are_codes;
 use crate::curve::{Curve, sextic};
 use fields::Field;
-use polynomials::{Polynomial, coefficient, difference, divide, is_zero, places, product};
+use polynomials::{Polynomial, coefficient, degree, difference, divide, is_zero, product};
 use std::fmt;
 
 // x1·x + x0
@@ -39,7 +40,8 @@ pub enum DivisorRefusal {
 }
 
 impl DivisorRefusal {
-    // The number of the condition.
+    // The number of the condition. A method and no conversion: the number alone does not say which refusal it is, since a
+    // curve has a refusal 5 too.
     pub fn number(self) -> u8
         ensures { result ≡ divisor_refusal_number self }
     {
@@ -93,6 +95,7 @@ impl Divisor {
     }
 
     // The divisor of a monic u of degree at most 2, a v of a smaller degree, and n.
+    #[tactic(auto, unfolding(crate::specs::Divisors::divisor_of))]
     pub fn from_polynomials<F: Field>(field: &F, u: Polynomial, v: Polynomial, n: u8) -> Divisor
         ensures { (let K : Arithmetic = F.Field.meaning field.now in result ≡ divisor_of (value K u.codes) (value K v.codes) n) }
     {
@@ -120,6 +123,7 @@ impl fmt::Display for Divisor {
 }
 
 // The divisor, if it is valid on the curve; or else why it is not: 4, then 5, then 9.
+#[tactic(auto, unfolding(crate::specs::Divisors::entered))]
 pub fn entered<F: Field>(field: &F, curve: Curve, d: Divisor) -> Result<Divisor, DivisorRefusal>
     ensures { Lawful (F.Field.meaning field.now) → result ≡ entered_as (F.Field.meaning field.now) curve d }
 {
@@ -136,6 +140,7 @@ pub fn entered<F: Field>(field: &F, curve: Curve, d: Divisor) -> Result<Divisor,
 }
 
 // [u; −v; 2 − deg u − n]
+#[tactic(auto, unfolding(crate::specs::Divisors::opposite))]
 pub fn negative<F: Field>(field: &F, d: Divisor) -> Divisor
     ensures { result ≡ opposite (F.Field.meaning field.now) d }
 {
@@ -150,12 +155,12 @@ pub fn negative<F: Field>(field: &F, d: Divisor) -> Divisor
     }
 }
 
-// The degree of a polynomial that is not 0.
+// The degree of a polynomial, where that of 0 counts as 0.
 pub fn degree_of<F: Field>(field: &F, p: Polynomial) -> u8
     ensures within { result < 10 }
     ensures value { result ≡ length (value (F.Field.meaning field.now) p.codes) - 1 }
 {
-    places(field, p).saturating_sub(1) as u8
+    degree(field, p).unwrap_or(0) as u8
 }
 
 // The coefficient of x to the k, if it stands below the leading one.
@@ -163,7 +168,7 @@ fn below_leading<F: Field>(field: &F, p: Polynomial, k: u8) -> u32
     ensures { (let K : Arithmetic = F.Field.meaning field.now in result ≡ slice_index (take (length (value K p.codes) - 1) (value K p.codes)) k) }
 {
     if k < degree_of(field, p) {
-        coefficient(field, p, k as usize)
+        coefficient(field, p, usize::from(k))
     } else {
         0
     }
@@ -191,8 +196,7 @@ fn is_unused(degree: u8, l: Linear) -> bool
 fn has_codes<F: Field>(field: &F, d: Divisor) -> bool
     ensures { result ≡ linear_codes (F.Field.meaning field.now) d.u && linear_codes (F.Field.meaning field.now) d.v }
 {
-    let q = field.size();
-    d.u.x1 < q && d.u.x0 < q && d.v.x1 < q && d.v.x0 < q
+    are_codes(field, &[d.u.x1, d.u.x0, d.v.x1, d.v.x0])
 }
 
 // Whether u divides f − v².

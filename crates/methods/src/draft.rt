@@ -4,9 +4,10 @@ ghost use Rattle.fields.specs.Lawful.{Lawful};
 ghost use Rattle.methods.specs.Curves.{coefficients_are_codes, smooth, curve_answer};
 ghost use Rattle.methods.specs.Drafts.{drafted, changed};
 
+use crate::codes::are_codes;
 use crate::curve::{Curve, CurveRefusal, sextic};
 use fields::Field;
-use polynomials::{derivative, gcd, places};
+use polynomials::{degree, derivative, gcd};
 
 // One of the five coefficients of a curve.
 #[derive(Clone, Copy, Debug, PartialEq, Eq, Hash)]
@@ -27,7 +28,7 @@ pub struct Draft {
 }
 
 // A field and a curve that the check has accepted. Its parts are private, and nothing but the check makes one.
-#[derive(Drop)]
+#[derive(Debug, Drop)]
 pub struct Model<F> {
     field: F,
     curve: Curve,
@@ -60,6 +61,14 @@ impl Draft {
             Coefficient::F1 => self.curve.f1 = value,
             Coefficient::F0 => self.curve.f0 = value,
         }
+    }
+}
+
+impl Default for Draft {
+    ghost is_default = { λ draft. drafted draft ≡ record { f4 = 0; f3 = 0; f2 = 0; f1 = 0; f0 = 0 } };
+
+    fn default() -> Draft {
+        Draft::new()
     }
 }
 
@@ -107,15 +116,16 @@ impl<F: Field> Model<F> {
 fn has_codes<F: Field>(field: &F, curve: Curve) -> bool
     ensures { result ≡ coefficients_are_codes (F.Field.meaning field.now) curve }
 {
-    let q = field.size();
-    curve.f4 < q && curve.f3 < q && curve.f2 < q && curve.f1 < q && curve.f0 < q
+    let Curve { f4, f3, f2, f1, f0 } = curve;
+    are_codes(field, &[f4, f3, f2, f1, f0])
 }
 
 // Whether f and its derivative have no common factor.
+#[tactic(auto, unfolding(crate::specs::Curves::smooth))]
 fn is_smooth<F: Field>(field: &F, curve: Curve) -> bool
     ensures { Lawful (F.Field.meaning field.now) → result ≡ smooth (F.Field.meaning field.now) curve }
 {
     let f = sextic(field, curve);
     let shared = gcd(field, f, derivative(field, f));
-    places(field, shared.divisor) == 1
+    degree(field, shared.divisor) == Some(0)
 }

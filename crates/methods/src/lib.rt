@@ -2,6 +2,7 @@
 #![tactic(auto)]
 
 pub use by_polynomials::ByPolynomials;
+pub use codes::are_codes;
 pub use curve::{Curve, CurveRefusal};
 pub use divisor::{Divisor, DivisorRefusal, Linear, entered, negative};
 pub use draft::{Coefficient, Draft, Model};
@@ -9,6 +10,7 @@ pub use method::Method;
 pub use standing::{sums_stand, worked_sums_stand};
 
 mod by_polynomials;
+mod codes;
 mod composition;
 mod curve;
 mod divisor;

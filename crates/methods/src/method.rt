@@ -8,7 +8,8 @@ use crate::curve::Curve;
 use crate::divisor::{Divisor, DivisorRefusal};
 use fields::Field;
 
-// A method keeps no state: its functions stand alone, and are handed the field by reference and the curve as a copy. Over any
+// A method keeps no state: its functions stand alone, and are handed the field by reference and the curve as a copy. A rule of
+// the project fixes this form, so that field and curve travel as two parameters, here and in what the methods call. Over any
 // field and for all numbers they are safe and end. Its meaning is what they answer over lawful fields and on accepted curves;
 // that those answers are the sums and doubles is a property of the meaning, `LawfulMethod`.
 pub trait Method<F: Field> {

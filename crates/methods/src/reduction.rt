@@ -14,15 +14,16 @@ use crate::curve::{Curve, root, sextic};
 use crate::divisor::{Divisor, degree_of};
 use fields::Field;
 use polynomials::{
-    Polynomial, coefficient, difference, divide, leading, multiple, negative, places, product, sum,
+    Polynomial, coefficient, difference, divide, leading, multiple, negative, product, sum,
 };
 
 // The composite as a divisor, if it is in range; otherwise what one step makes of it.
+#[tactic(auto, unfolding(crate::specs::Sums::reduced))]
 pub fn reduce<F: Field>(field: &F, curve: Curve, c: Composition) -> Divisor
     ensures { (let K : Arithmetic = F.Field.meaning field.now in Lawful K → Fair (composite_of K c) → result ≡ reduced K curve (composite_of K c)) }
 {
     if is_in_range(field, c) {
-        Divisor::from_polynomials(field, c.u, c.v, (c.n_plus_one - 1) as u8)
+        Divisor::from_polynomials(field, c.u, c.v, c.n as u8)
     } else {
         step(field, curve, c)
     }
@@ -33,7 +34,7 @@ fn is_in_range<F: Field>(field: &F, c: Composition) -> bool
     ensures { result ≡ in_range (composite_of (F.Field.meaning field.now) c) }
 {
     let d = degree_of(field, c.u);
-    d <= 2 && c.n_plus_one >= 1 && u32::from(c.n_plus_one) + u32::from(d) <= 3
+    d <= 2 && (0..=2 - i16::from(d)).contains(&c.n)
 }
 
 // u' is (f − w²)/u made monic, v' the remainder of −w by u', and n' is 2 − deg u' if the x³ coefficient of w is −1,
@@ -58,21 +59,17 @@ fn infinity<F: Field>(field: &F, w: Polynomial, u: Polynomial) -> u8
     }
 }
 
-// w is v, if deg u = 4; else, if n < 0, −V and the remainder of v + V by u; else V and the remainder of v − V by u.
+// w is v, if deg u = 4; else V and the remainder of v − V by u, with −V in place of V, if n < 0.
 fn lift<F: Field>(field: &F, curve: Curve, c: Composition) -> Polynomial
     ensures { (let K : Arithmetic = F.Field.meaning field.now in Lawful K → value K result.codes ≡ lifted K (root_of K curve) (composite_of K c)) }
 {
-    if places(field, c.u) == 5 {
+    if degree_of(field, c.u) == 4 {
         return c.v;
     }
     let part = root(field, curve);
-    if c.n_plus_one == 0 {
-        let (_, r) = divide(field, sum(field, c.v, part), c.u);
-        sum(field, negative(field, part), r)
-    } else {
-        let (_, r) = divide(field, difference(field, c.v, part), c.u);
-        sum(field, part, r)
-    }
+    let part = if c.n < 0 { negative(field, part) } else { part };
+    let (_, r) = divide(field, difference(field, c.v, part), c.u);
+    sum(field, part, r)
 }
 
 // (f − w²)/u made monic.

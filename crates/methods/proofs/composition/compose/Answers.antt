@@ -1,10 +1,9 @@
 -- The composite by the cofactors that were found, which is the composite by any.
-use Rattle.std.proofs.Common.{◌≡◌, ◌+◌, ◌-◌, length, ◌∙◌, arith}
-use Rattle.polynomials.specs.Ten.{value}
-use Rattle.methods.specs.declared.composition.Composition.{Composition}
+use Rattle.std.proofs.Common.{◌∙◌, arith}
+use Rattle.std.proofs.lemmas.Int.{ints}
 use Rattle.methods.specs.Steps.{bezout_of}
 use Rattle.methods.proofs.Compositions.{composed-same}
-use Rattle.methods.proofs.Composing.{composition_is}
+use Rattle.methods.proofs.Composing.{one_more_is, composition_is}
 use Rattle.methods.proofs.composition.compose.Goals as goal
 
 pub returns : goal.returns
@@ -14,12 +13,7 @@ returns g c L va vb =
     let E = c.args.b in
     let z = c.bezout-z.result in
     let few = (c.bezout-z.ensures L).1 in
-    let n = c.from.result + c.from-2.result + c.from-3.result in
-    let counted : n ≡ D.n + E.n + (length (value K z.d.codes) - 1) = omega arith in
-    let made : Composition = record { u = c.divide.result.0; v = c.divide-3.result.1; n_plus_one = n } in
-    let by =
-    composition_is K L D E _ _ c.u_polynomial.ensures c.u_polynomial-2.ensures c.args.curve z few made
+    composition_is K L D E _ _ c.u_polynomial.ensures c.u_polynomial-2.ensures c.args.curve z few _
     _ _ _ _ (c.product.ensures L) (c.product-2.ensures L) (c.divide.ensures.quotient L)
-    (c.numerator.ensures L few) (c.divide-2.ensures.quotient L) (c.divide-3.ensures.remainder L) counted
-    in
-    by ∙ composed-same K L D E c.args.curve va vb (bezout_of K z) (c.bezout-z.ensures L).0
+    (c.numerator.ensures L few) (c.divide-2.ensures.quotient L) (c.divide-3.ensures.remainder L) (one_more_is _ _ (omega (arith, ints)))
+    ∙ composed-same K L D E c.args.curve va vb (bezout_of K z) (c.bezout-z.ensures L).0
