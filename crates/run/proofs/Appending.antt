@@ -46,13 +46,11 @@ append_by a b shorter (whole c rest) e w =
 append_by a b shorter (short kind) e w =
     let is : sheet_of a ≡ stopped (reply_bytes (Refused kind Short)) = sheet_by a ∙ ap (records_by sheet_of) e in
     let stop : reply_bytes (Refused kind Short) ≡ [] = sym (ap (λ s. s.stop) is) ∙ w in
-    let z : ◌≡◌ {A = ℕ} 0 1 = cc in
-    absurd (omega arith)
+    absurd cc
 append_by a b shorter (unknown kind) e w =
     let is : sheet_of a ≡ stopped (reply_bytes (Refused kind Unknown)) = sheet_by a ∙ ap (records_by sheet_of) e in
     let stop : reply_bytes (Refused kind Unknown) ≡ [] = sym (ap (λ s. s.stop) is) ∙ w in
-    let z : ◌≡◌ {A = ℕ} 0 1 = cc in
-    absurd (omega arith)
+    absurd cc
 
 append-below : (n : ℕ) (b a : List ℕ) → length a ≤ n → Appends b a
 append-below zero b a most = append_by a b (λ rest less. absurd (omega arith)) (reading a) refl

@@ -1,5 +1,5 @@
 -- A record that is refused leaves the run where it was.
-use Rattle.std.proofs.Common.{◌≡◌, ℕ, List, [], ◌∷◌, ◌++◌, Ok, Err, Result, sym, refl, ap, ◌∙◌, ap₂, append-nil, arith}
+use Rattle.std.proofs.Common.{◌≡◌, ℕ, List, [], ◌∷◌, ◌++◌, Ok, Err, Result, sym, refl, ap, ◌∙◌, ap₂, append-nil}
 use Rattle.fields.specs.Pairs.{pairs, pairs_answer}
 use Rattle.fields.specs.Residues.{residues, fill_answer}
 use Rattle.methods.specs.declared.divisor.Divisor.{Divisor}
@@ -23,25 +23,25 @@ use Rattle.run.proofs.Appending.{reading-append, behind-append, run_append}
 module _ (kind : ℕ) (why : Refusal) where
   -- A call that is refused leaves the registers.
   call_stays : (rs : List Divisor) (c : Call) (r : Result Divisor CallRefusal) → replied c (said c r) ≡ Refused kind why → posted rs c r ≡ rs
-  call_stays rs (Enter t D) (Ok E) e = let z : ◌≡◌ {A = ℕ} 0 1 = cc in absurd (omega arith)
+  call_stays rs (Enter t D) (Ok E) e = absurd cc
   call_stays rs (Enter t D) (Err w) e = refl
-  call_stays rs (Add t a b) (Ok E) e = let z : ◌≡◌ {A = ℕ} 0 1 = cc in absurd (omega arith)
+  call_stays rs (Add t a b) (Ok E) e = absurd cc
   call_stays rs (Add t a b) (Err w) e = refl
-  call_stays rs (Double t a) (Ok E) e = let z : ◌≡◌ {A = ℕ} 0 1 = cc in absurd (omega arith)
+  call_stays rs (Double t a) (Ok E) e = absurd cc
   call_stays rs (Double t a) (Err w) e = refl
-  call_stays rs (Negate t a) (Ok E) e = let z : ◌≡◌ {A = ℕ} 0 1 = cc in absurd (omega arith)
+  call_stays rs (Negate t a) (Ok E) e = absurd cc
   call_stays rs (Negate t a) (Err w) e = refl
   call_stays rs (Show a) r e = refl
 
   choice_stays : {E : Type 0} (n : E → Refusal) (p : Progress) (k : ℕ) (q : Progress) (answer : Result (Unit {0}) E)
       → (chosen n p k q answer).reply ≡ Refused kind why → (chosen n p k q answer).after ≡ p
-  choice_stays n p k q (Ok _) e = let z : ◌≡◌ {A = ℕ} 0 1 = cc in absurd (omega arith)
+  choice_stays n p k q (Ok _) e = absurd cc
   choice_stays n p k q (Err w) e = refl
 
   turn_stays : (p : Progress) (c : Command) → Turn p c → (step p c).reply ≡ Refused kind why → (step p c).after ≡ p
   unfolding step
   turn_stays _ _ (residues_first m) e = choice_stays RefusedField start 1 (based (residues m)) (fill_answer m m) e
-  turn_stays _ _ nine_first e = let z : ◌≡◌ {A = ℕ} 0 1 = cc in absurd (omega arith)
+  turn_stays _ _ nine_first e = absurd cc
   turn_stays _ _ (pairs_next K r) e =
       choice_stays RefusedField (based K) 3 (paired (pairs K K.size r)) (pairs_answer K r) e
   turn_stays _ _ (curve_on_base K C) e =
@@ -56,8 +56,8 @@ module _ (kind : ℕ) (why : Refusal) where
 
 -- The bytes of a refusal are those of no other reply.
 refusal_bytes : (kind number : ℕ) (r : Reply) → reply_bytes r ≡ 17 ∷ kind ∷ number ∷ [] → (why : Refusal) × (r ≡ Refused kind why)
-refusal_bytes kind number Silent e = let z : ◌≡◌ {A = ℕ} 0 1 = cc in absurd (omega arith)
-refusal_bytes kind number (Shown k D) e = let z : ◌≡◌ {A = ℕ} 16 17 = cc in absurd (omega arith)
+refusal_bytes kind number Silent e = absurd cc
+refusal_bytes kind number (Shown k D) e = absurd cc
 refusal_bytes kind number (Refused k w) e = (w, cc)
 
 -- One record: what is written for it alone, and how far the run is behind it.

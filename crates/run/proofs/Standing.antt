@@ -1,5 +1,5 @@
 -- A run that has come to a lawful field and an accepted curve keeps to them, whatever record arrives.
-use Rattle.std.proofs.Common.{◌≡◌, ℕ, Bool, true, false, cond, ltb, leb, Ok, Err, Result, sym, refl, ap, subst, arith}
+use Rattle.std.proofs.Common.{◌≡◌, ℕ, Bool, true, false, cond, ltb, leb, Ok, Err, Result, sym, refl, ap, subst}
 use Rattle.std.proofs.lemmas.Bool.{leb-true, ltb-true}
 use Rattle.fields.specs.Arithmetic.{Arithmetic}
 use Rattle.fields.specs.Lawful.{Lawful}
@@ -25,9 +25,9 @@ answer_by few code square = cond few (cond code (cond square (Err Square) (Ok tt
 answer-accepted : (few code square : Bool) → answer_by few code square ≡ Ok tt → (few ≡ true) × (code ≡ true) × (square ≡ false)
 unfolding answer_by
 answer-accepted true true false ok = (refl, refl, refl)
-answer-accepted true true true ok = let z : ◌≡◌ {A = ℕ} 0 1 = cc in absurd (omega arith)
-answer-accepted true false square ok = let z : ◌≡◌ {A = ℕ} 0 1 = cc in absurd (omega arith)
-answer-accepted false code square ok = let z : ◌≡◌ {A = ℕ} 0 1 = cc in absurd (omega arith)
+answer-accepted true true true ok = absurd cc
+answer-accepted true false square ok = absurd cc
+answer-accepted false code square ok = absurd cc
 
 pairs_accepted_lawful : (K : Arithmetic) (r : ℕ) → Lawful K → pairs_answer K r ≡ Ok tt → Lawful (pairs K K.size r)
 unfolding answer_by

@@ -36,7 +36,7 @@ impl SheetRefusal {
 }
 
 // Why a record is refused, and for the program a sheet.
-#[derive(Clone, Copy)]
+#[derive(Clone, Copy, Debug, PartialEq, Eq, Hash)]
 pub enum Refusal {
     // 2, 5, 6 or 7
     Field(FieldRefusal),

@@ -4,7 +4,7 @@ use methods::Divisor;
 
 // Nothing; or a register and its divisor; or a record's kind, and why it is refused. The kind is a byte, since it may be one that
 // no record has.
-#[derive(Clone, Copy)]
+#[derive(Clone, Copy, Debug, PartialEq, Eq, Hash)]
 pub enum Reply {
     Silent,
     Shown(u8, Divisor),

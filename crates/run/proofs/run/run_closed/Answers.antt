@@ -4,14 +4,11 @@ use Rattle.closed_formulas.specs.Formulas.{closed}
 use Rattle.closed_formulas.proofs.Lawful.{closed_lawful}
 use Rattle.run.proofs.run.run_closed.Goals as goal
 
-rules_lawful : LawfulMethod the_law
-rules_lawful = record { adds = λ K C lawful accepted D E. refl; doubles = λ K C lawful accepted D. refl }
+method_lawful : LawfulMethod (closed the_law)
+method_lawful = closed_lawful the_law (record { adds = λ K C lawful accepted D E. refl; doubles = λ K C lawful accepted D. refl })
 
-pub returns : goal.returns
-returns c =
-    let lawful : LawfulMethod (closed the_law) = closed_lawful the_law rules_lawful in
-    record {
-      answer = c.run_by.ensures.outcome lawful;
-      output = c.run_by.ensures.output lawful;
-      room = c.run_by.ensures.room;
-    }
+pub returns-clause-answer : goal.returns-clause-answer
+returns-clause-answer c = c.run_by.ensures.outcome method_lawful
+
+pub returns-clause-output : goal.returns-clause-output
+returns-clause-output c = c.run_by.ensures.output method_lawful

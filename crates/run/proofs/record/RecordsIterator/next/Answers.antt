@@ -1,5 +1,5 @@
 -- What is left of the sheet is shorter, since a record has a byte at least.
-use Rattle.std.proofs.Common.{◌≡◌, ℕ, ◌<◌, List, [], length, Ok, Err, sym, arith}
+use Rattle.std.proofs.Common.{◌≡◌, ℕ, ◌<◌, List, length, Err, sym, arith}
 use Rattle.run.specs.declared.record.Unreadable.{Unreadable}
 use Rattle.run.specs.declared.record.Unreadable.TheVariants.{Short, Unknown}
 use Rattle.run.specs.Records.{reading}
