@@ -71,7 +71,7 @@ impl Refusal {
     }
 }
 
-// The refusals of fields, curves, calls and sheets, as those of a run.
+// The refusals of fields, curves, calls and sheets, as those of a run. Written out and not derived, since proofs read what they give.
 impl From<FieldRefusal> for Refusal {
     ghost from_gives = { λ why refusal. refusal ≡ Field why };
 
