@@ -1,5 +1,5 @@
 -- Bytes written into a buffer, one row after another.
-use Rattle.std.proofs.Common.{◌≡◌, ℕ, ◌+◌, ◌≤◌, List, [], ◌++◌, length, take, drop, sym, ap, ◌∙◌, ap₂, append_assoc, add-zero, zero-add, add_assoc, arith, length-append, take-append-drop}
+use Rattle.std.proofs.Common.{◌≡◌, ℕ, ◌+◌, ◌≤◌, List, [], ◌++◌, length, take, drop, sym, ap, ◌∙◌, ap₂, append_assoc, add-zero, zero-add, add_assoc, arith, length-append, length-drop, take-append-drop}
 use borrow.Rule.Slice.PartMut.{put_mid}
 use Rattle.std.proofs.lemmas.List.{take_at, drop_at, drop-drop, length-take-le}
 use Rattle.run.specs.Buffers.{overwritten}
@@ -9,6 +9,12 @@ overwritten-none xs n = rw add-zero (sym (take-append-drop n xs))
 
 pub overwritten_first : (xs bytes : List ℕ) → overwritten xs 0 bytes ≡ bytes ++ drop (length bytes) xs
 overwritten_first xs bytes = ap (λ k. bytes ++ drop k xs) (zero-add (length bytes))
+
+-- A buffer stays as long as it was.
+pub length-overwritten : (xs bytes : List ℕ) (n : ℕ) → n + length bytes ≤ length xs → length (overwritten xs n bytes) ≡ length xs
+length-overwritten xs bytes n fits =
+    let h : n ≤ length xs = omega arith in
+    simp (length-append, length-drop) (omega (arith, length-take-le n xs h))
 
 -- A part of the buffer takes the bytes.
 pub overwritten_part : (xs ys bytes : List ℕ) (n k : ℕ) → k ≡ length bytes → ys ≡ bytes → put_mid n k xs ys ≡ overwritten xs n bytes

@@ -7,7 +7,6 @@ pub mod Standing
 pub mod Sheets
 pub mod Running
 pub mod Room
-pub mod Sizes
 pub mod Appending
 pub mod Refusals
 pub mod Keeping

@@ -3,6 +3,7 @@ use Rattle.std.proofs.Common.{◌≡◌, ℕ, zero, suc, ◌+◌, ◌≤◌, Lis
 use Rattle.std.proofs.lemmas.Bool.{cases_lt}
 use Rattle.std.specs.List.{slice_get}
 use Rattle.calculator.specs.declared.call.Call.TheVariants.{Enter, Add, Double, Negate, Show}
+use Rattle.run.specs.declared.refusal.Refusal.TheVariants.{Short, Unknown}
 use Rattle.run.specs.declared.reply.Reply.TheVariants.{Refused}
 use Rattle.run.specs.Records.{Command, modulus, nine_elements, square_root, coefficients, call, Kind, kinds, kind_at, least_size, Reading, end, whole, short, unknown, reading, reading_by}
 use Rattle.run.specs.Progress.{Progress, step, reply_bytes}
@@ -15,7 +16,7 @@ AllFit [] = Unit {0}
 AllFit (k ∷ ks) = ((b : List ℕ) → least_size (k.says b) ≤ 1 + k.size) × AllFit ks
 
 fit_at : (ks : List Kind) (j : ℕ) (k : Kind) → AllFit ks → slice_get ks j ≡ Some k → (b : List ℕ) → least_size (k.says b) ≤ 1 + k.size
-fit_at [] j k all found = let z : ◌≡◌ {A = ℕ} 0 1 = cc in absurd (omega arith)
+fit_at [] j k all found = absurd cc
 fit_at (k' ∷ ks) zero k all found = let same : k' ≡ k = cc in rw same at all.0
 fit_at (k' ∷ ks) (suc j) k all found = fit_at ks j k all.1 found
 
@@ -26,7 +27,7 @@ kinds_fit = (
 )
 
 kind_fits : (kind : ℕ) (k : Kind) → kind_at kind ≡ Some k → (b : List ℕ) → least_size (k.says b) ≤ 1 + k.size
-kind_fits zero k found = let z : ◌≡◌ {A = ℕ} 0 1 = cc in absurd (omega arith)
+kind_fits zero k found = absurd cc
 kind_fits (suc j) k found = fit_at kinds j k kinds_fit found
 
 pub reading-none : reading [] ≡ end
@@ -49,14 +50,12 @@ module _ (kind : ℕ) (tail : List ℕ) (c : Command) (rest : List ℕ) (e : rea
   unfolding reading
   parts_by None none =
       let u : reading_by kind tail None ≡ whole c rest = ap (reading_by kind tail) (sym none) ∙ e in
-      let z : ◌≡◌ {A = ℕ} 0 1 = cc in
-      absurd (omega arith)
+      absurd cc
   parts_by (Some k) known =
       elim (cases_lt (length tail) k.size) [
         | inl less ↦
             let is = short_by_size kind tail k known less in
-            let z : ◌≡◌ {A = ℕ} 0 1 = cc in
-            absurd (omega arith)
+            absurd cc
         | inr fits ↦
             let is = whole_by_size kind tail k known fits in
             let r : rest ≡ drop k.size tail = cc in
@@ -67,8 +66,7 @@ module _ (kind : ℕ) (tail : List ℕ) (c : Command) (rest : List ℕ) (e : rea
 pub whole_parts : (xs : List ℕ) (c : Command) (rest : List ℕ) → reading xs ≡ whole c rest → WholeParts xs c rest
 whole_parts [] c rest e =
     let none = reading-none in
-    let z : ◌≡◌ {A = ℕ} 0 1 = cc in
-    absurd (omega arith)
+    absurd cc
 whole_parts (kind ∷ tail) c rest e = parts_by kind tail c rest e (kind_at kind) refl
 
 -- What follows a whole record is shorter than the sheet, by the bytes of the record.
@@ -84,18 +82,15 @@ not_end : (kind : ℕ) (tail : List ℕ) (found : Option Kind) → kind_at kind 
 unfolding reading
 not_end kind tail None none e =
     let u : reading_by kind tail None ≡ end = ap (reading_by kind tail) (sym none) ∙ e in
-    let z : ◌≡◌ {A = ℕ} 0 1 = cc in
-    omega arith
+    cc
 not_end kind tail (Some k) known e =
     elim (cases_lt (length tail) k.size) [
       | inl less ↦
           let is = short_by_size kind tail k known less in
-          let z : ◌≡◌ {A = ℕ} 0 1 = cc in
-          omega arith
+          cc
       | inr fits ↦
           let is = whole_by_size kind tail k known fits in
-          let z : ◌≡◌ {A = ℕ} 0 1 = cc in
-          omega arith
+          cc
     ]
 
 pub end_none : (xs : List ℕ) → reading xs ≡ end → xs ≡ []
@@ -106,15 +101,13 @@ end_none (kind ∷ tail) e = absurd (not_end kind tail (kind_at kind) refl e)
 pub short_some : (xs : List ℕ) (kind : ℕ) → reading xs ≡ short kind → 1 ≤ length xs
 short_some [] kind e =
     let none = reading-none in
-    let z : ◌≡◌ {A = ℕ} 0 1 = cc in
-    absurd (omega arith)
+    absurd cc
 short_some (x ∷ xs) kind e = omega arith
 
 pub unknown_some : (xs : List ℕ) (kind : ℕ) → reading xs ≡ unknown kind → 1 ≤ length xs
 unknown_some [] kind e =
     let none = reading-none in
-    let z : ◌≡◌ {A = ℕ} 0 1 = cc in
-    absurd (omega arith)
+    absurd cc
 unknown_some (x ∷ xs) kind e = omega arith
 
 -- A record has a byte at least.
@@ -134,8 +127,8 @@ least_some (call (Show a)) = omega arith
 abbrev pub records_by : (List ℕ → Sheet) → Reading → Sheet
 records_by more end = stopped []
 records_by more (whole c rest) = first c (more rest)
-records_by more (short kind) = stopped (reply_bytes (Refused kind 10))
-records_by more (unknown kind) = stopped (reply_bytes (Refused kind 11))
+records_by more (short kind) = stopped (reply_bytes (Refused kind Short))
+records_by more (unknown kind) = stopped (reply_bytes (Refused kind Unknown))
 
 records_by_same : (f g : List ℕ → Sheet) (xs : List ℕ) → ((rest : List ℕ) → length rest + 1 ≤ length xs → f rest ≡ g rest)
     → (r : Reading) → reading xs ≡ r → records_by f r ≡ records_by g r
@@ -179,10 +172,10 @@ module _ (p : Progress) (xs : List ℕ) where
   pub run_end : reading xs ≡ end → run_from p xs ≡ []
   run_end e = run_sheet _ (sheet_read end e)
 
-  pub run_short : (kind : ℕ) → reading xs ≡ short kind → run_from p xs ≡ reply_bytes (Refused kind 10)
+  pub run_short : (kind : ℕ) → reading xs ≡ short kind → run_from p xs ≡ reply_bytes (Refused kind Short)
   run_short kind e = run_sheet _ (sheet_read (short kind) e)
 
-  pub run_unknown : (kind : ℕ) → reading xs ≡ unknown kind → run_from p xs ≡ reply_bytes (Refused kind 11)
+  pub run_unknown : (kind : ℕ) → reading xs ≡ unknown kind → run_from p xs ≡ reply_bytes (Refused kind Unknown)
   run_unknown kind e = run_sheet _ (sheet_read (unknown kind) e)
 
   pub run_whole : (c : Command) (rest : List ℕ) → reading xs ≡ whole c rest

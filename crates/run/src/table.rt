@@ -5,13 +5,14 @@ ghost use Rattle.fields.specs.Residues.{residues, fill_answer};
 
 use fields::{Field, FieldRefusal, Residues};
 
-// What makes the residues modulo any m that is taken. Making them uses it up, and a refusal hands it back.
+// What makes the residues modulo any m that is taken. Making them uses it up, and a refusal hands it back. A trait, so that a stage
+// need not hold a reference: an enum with a lent table in one variant and fields that borrow from it in others gets no proof.
 pub(crate) trait Ground<R: Field>: Sized {
     fn residues(self, m: u16) -> Result<R, (Self, FieldRefusal)>
         ensures { MatchResult result (λ f. (fill_answer m m ≡ Ok tt) × (R.Field.meaning f ≡ residues m) × Lawful (R.Field.meaning f)) (λ e. fill_answer m m ≡ Err e.1) };
 }
 
-// A table that is large enough for every modulus.
+// A table that is large enough for every modulus, in fixed memory that the caller of a run lends.
 #[derive(Drop)]
 pub(crate) struct Table<'t> {
     pub(crate) entries: &'t mut [u16; 8191],

@@ -1,18 +1,8 @@
-use Rattle.std.proofs.Common.{refl}
-use Rattle.methods.specs.Methods.{LawfulMethod, the_law}
-use Rattle.closed_formulas.specs.Formulas.{closed}
-use Rattle.closed_formulas.proofs.Lawful.{closed_lawful}
 use Rattle.run.proofs.Laws.{run_laws}
 use Rattle.run.proofs.run.zafindoro_run.Goals as goal
 
-rules_lawful : LawfulMethod the_law
-rules_lawful = record { adds = λ K C lawful accepted D E. refl; doubles = λ K C lawful accepted D. refl }
+pub returns-in-Ok-clause-laws : goal.returns-in-Ok-clause-laws
+returns-in-Ok-clause-laws c = run_laws c.args.sheet.now
 
-pub returns : goal.returns
-returns c =
-    let lawful : LawfulMethod (closed the_law) = closed_lawful the_law rules_lawful in
-    record {
-      answer = c.run_by.ensures.answer lawful;
-      output = c.run_by.ensures.output lawful;
-      laws = run_laws c.args.sheet.now;
-    }
+pub returns-in-Err-clause-laws : goal.returns-in-Err-clause-laws
+returns-in-Err-clause-laws c = run_laws c.args.sheet.now

@@ -3,18 +3,14 @@ use Rattle.run.specs.Progress.{ready, replied, step}
 use Rattle.run.specs.Stages.{chosen_meaning}
 use Rattle.run.proofs.stage.Stage.on_call.Goals as goal
 
-pub returns : goal.returns
+pub returns-clause-obeyed : goal.returns-clause-obeyed
 unfolding step
-returns g c =
+returns-clause-obeyed g c method standing =
     let sent = c.send-answer.ensures in
     let old = c.args.calculator in
     record {
-      obeyed = λ method standing.
-          record {
-            comes_to =
-                rw sent.left.model
-                (ap (ready (chosen_meaning g.R.Field old.model.field) old.model.curve) (sent.left.registers (record { lawful = standing.0; accepted = standing.1; method = method })));
-            writes = c.replied.ensures.same ∙ ap (replied c.args.call) (sent.answer (record { lawful = standing.0; accepted = standing.1; method = method }));
-          };
-      fits = c.replied.ensures.fits;
+      comes_to =
+          rw sent.left.model
+          (ap (ready (chosen_meaning g.R.Field old.model.field) old.model.curve) (sent.left.registers (record { lawful = standing.0; accepted = standing.1; method = method })));
+      writes = c.replied.ensures.same ∙ ap (replied c.args.call) (sent.answer (record { lawful = standing.0; accepted = standing.1; method = method }));
     }
