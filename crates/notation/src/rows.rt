@@ -1,16 +1,11 @@
 // Rows of numbers with spaces between.
 
-// The numbers of a text, as many as the row has or fewer, with 0 for those that are missing; and how many there were. None
-// where a word is no number below 2³², or where there are too many.
-pub fn numbers<const N: usize>(text: &str) -> Option<([u32; N], usize)> {
+// The numbers of a text. None where a word is no number below 2³², or where they are fewer or more than the row has.
+pub fn row<const N: usize>(text: &str) -> Option<[u32; N]> {
+    let mut words = text.split_whitespace();
     let mut row = [0; N];
-    let mut n = 0;
-    for word in text.split_whitespace() {
-        if n >= N {
-            return None;
-        }
-        row[n] = word.parse::<u32>().ok()?;
-        n += 1;
+    for place in &mut row {
+        *place = words.next()?.parse().ok()?;
     }
-    Some((row, n))
+    words.next().is_none().then_some(row)
 }
