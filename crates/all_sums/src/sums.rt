@@ -23,36 +23,36 @@ impl FieldTask for AllSums {
 
 // How many sums and doubles there are, and how many of them differ.
 fn compare_all<F: Field>(rt: &HostRuntime, model: &Model<F>) -> io::Result<()> {
+    let (field, curve) = (model.field(), model.curve());
     let all = valid_divisors(rt.alloc(), model)?;
-    let mut differ = 0u64;
-    for &a in &all {
-        let sums = all.iter().filter(|&&b| !sums_agree(model, a, b)).count();
-        let double = u64::from(!doubles_agree(model, a));
-        differ = differ.saturating_add(sums as u64).saturating_add(double);
-    }
-    println!(rt; "{} divisors, {differ} sums or doubles differ", all.len())
+    let sums_with = |a| {
+        all.iter()
+            .filter(|&&b| {
+                differ(
+                    Closed::<ByPolynomials>::add(field, curve, a, b),
+                    ByPolynomials::add(field, curve, a, b),
+                )
+            })
+            .count()
+    };
+    let doubles = all
+        .iter()
+        .filter(|&&a| {
+            differ(
+                Closed::<ByPolynomials>::double(field, curve, a),
+                ByPolynomials::double(field, curve, a),
+            )
+        })
+        .count();
+    let count = all.len();
+    let differing = all
+        .iter()
+        .map(|&a| sums_with(a))
+        .fold(doubles, usize::saturating_add);
+    println!(rt; "{count} divisors, {differing} sums or doubles differ")
 }
 
-fn sums_agree<F: Field>(model: &Model<F>, a: Divisor, b: Divisor) -> bool {
-    let (field, curve) = (model.field(), model.curve());
-    agree(
-        Closed::<ByPolynomials>::add(field, curve, a, b),
-        ByPolynomials::add(field, curve, a, b),
-    )
-}
-
-fn doubles_agree<F: Field>(model: &Model<F>, a: Divisor) -> bool {
-    let (field, curve) = (model.field(), model.curve());
-    agree(
-        Closed::<ByPolynomials>::double(field, curve, a),
-        ByPolynomials::double(field, curve, a),
-    )
-}
-
-// Both answers are divisors, with the same numbers.
-fn agree(
-    closed: Result<Divisor, DivisorRefusal>,
-    plain: Result<Divisor, DivisorRefusal>,
-) -> bool {
-    closed.is_ok() && closed == plain
+// Whether an answer is no divisor, or the two are not the same.
+fn differ(closed: Result<Divisor, DivisorRefusal>, plain: Result<Divisor, DivisorRefusal>) -> bool {
+    closed.is_err() || closed != plain
 }

@@ -12,6 +12,17 @@ pub enum Named {
     Pairs(u16, u32),
 }
 
+// A field's name, as it is read.
+impl fmt::Display for Named {
+    fn fmt<W: fmt::Write>(&self, f: &mut fmt::Formatter<W>) -> fmt::Result {
+        match *self {
+            Named::Residues(m) => write!(f, "residues {m}"),
+            Named::Nine => write!(f, "nine"),
+            Named::Pairs(m, r) => write!(f, "pairs {m} {r}"),
+        }
+    }
+}
+
 // A text that is no field's name.
 #[derive(Clone, Copy, Debug, PartialEq, Eq, Hash)]
 pub struct NotAField;
