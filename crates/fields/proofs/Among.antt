@@ -1,5 +1,5 @@
 -- What `only` and `among` answer inside and outside the codes.
-use Rattle.std.proofs.Common.{◌≡◌, ℕ, ◌<◌, ◌≤◌, Bool, true, false, cond, ◌&&◌, ltb, refl}
+use Rattle.std.proofs.Common.{◌≡◌, ℕ, ◌<◌, ◌≤◌, ◌&&◌, ltb}
 use Rattle.std.proofs.lemmas.Bool.{lt-ltb, le-ltb, and_from, and_left, and_right, cond-true, cond-false}
 use Rattle.fields.specs.Residues.{only, among}
 
@@ -18,10 +18,3 @@ module _ (m : ℕ) where
 
   pub among_outside_right : (a b x : ℕ) → m ≤ b → among m a b x ≡ 0
   among_outside_right a b x h = cond-false (ltb a m && ltb b m) x 0 (and_right (ltb a m) (ltb b m) (le-ltb b m h))
-
-  pub only_zero : (a x : ℕ) → x ≡ 0 → only m a x ≡ 0
-  only_zero a x e = go (ltb a m)
-    where
-      go : (t : Bool) → cond t x 0 ≡ 0
-      go true = e
-      go false = refl

@@ -1,6 +1,5 @@
 -- The steps of filling a table with the inverses modulo m: entry by entry, from 2 on.
-use Rattle.std.proofs.Common.{◌≡◌, ℕ, ◌+◌, ◌-◌, ◌*◌, ◌/◌, ◌%◌, ◌<◌, ◌≢◌, List, length, get_or, set, replicate, Some, None, sym, ap, ◌∙◌, subst, mod-lt, arith, length-set, get_or-set_same, ext_get_or, below_more}
-use lib.ListN.{length-replicate, get_or-replicate}
+use Rattle.std.proofs.Common.{◌≡◌, ℕ, ◌+◌, ◌-◌, ◌*◌, ◌/◌, ◌%◌, ◌<◌, ◌≢◌, List, length, get_or, set, Some, None, sym, ap, ◌∙◌, subst, mod-lt, arith, length-set, get_or-set_same, below_more}
 use Rattle.std.proofs.lemmas.List.Edits.{fill_by_more}
 use Rattle.std.proofs.lemmas.List.FromFn.{fill_by_all}
 use Rattle.fields.specs.Residues.{Inverse, inverse_modulo, inverses, without_inverse}
@@ -11,11 +10,6 @@ use Rattle.fields.proofs.LawfulResidues.{Taken}
 pub record Inverted (m : ℕ) (table : List ℕ) (a : ℕ) : Type 0 where
   pub entries : (k : ℕ) → k < a → get_or table k 0 ≡ inverse_modulo m k
   pub good : (k : ℕ) → 0 < k → k < a → (k * inverse_modulo m k) % m ≡ 1
-
-pub zeros_all : (table : List ℕ) (n : ℕ) → length table ≡ n → ((k : ℕ) → k < n → get_or table k 0 ≡ 0) → table ≡ replicate n 0
-zeros_all table n e h =
-    ext_get_or 0 table (replicate n 0) (e ∙ sym (length-replicate n 0))
-    (λ i l. h i (omega arith) ∙ sym (get_or-replicate n i 0 0 (omega arith)))
 
 module _ (m : ℕ) (bounds : Taken m) where
   many : 1 < m

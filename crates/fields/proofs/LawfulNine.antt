@@ -93,7 +93,7 @@ pub product_table : (table : List (List ℕ)) → T (every₂ 9 (λ a b. eqb (ge
     → (a b : ℕ) → entry_of table a b ≡ nine.times a b
 product_table table same = table_is table nine.times same nine-products.outside_left nine-products.outside_right
 
--- −x is 2·x, and x⁷ is the inverse of x
+-- In the words of the field: −x is 2·x, and x⁷ is the inverse of x.
 pub negative_is : (x : ℕ) → nine.times 2 x ≡ nine.minus x
 negative_is x =
     elim (dec_lt x 9) [

@@ -1,6 +1,7 @@
 -- Pairs over a lawful field with r no square are a lawful field: the codes stand for the elements a + b·√r.
-use Rattle.std.proofs.Common.{◌≡◌, ℕ, ◌+◌, ◌*◌, ◌/◌, ◌%◌, ◌<◌, ◌≤◌, Bool, true, false, cond, ltb, leb, ◌≢◌, Ok, Err, Result, sym, refl, ap, ◌∙◌, subst, ap₂, mod-lt, mod-eq_of_lt, div-lt_iff_lt-mul, mul-le-mul, mul-le-mul_left, mul-zero, zero-add, mul-add, arith}
+use Rattle.std.proofs.Common.{◌≡◌, ℕ, ◌+◌, ◌*◌, ◌/◌, ◌%◌, ◌<◌, ◌≤◌, Bool, true, false, cond, ltb, leb, ◌≢◌, Ok, Err, Result, sym, refl, ap, ◌∙◌, subst, ap₂, mod-lt, mod-eq_of_lt, div-lt_iff_lt-mul, mul-le-mul, mul-zero, zero-add, mul_comm, arith}
 use native.Mathlib.Nat.{div-eq_of_lt, mod-add-div, add-mul-mod_self_left, add-mul-div_left, zero-mod, zero-div}
+use Rattle.std.proofs.lemmas.Nat.{mul-add-lt}
 use Rattle.std.proofs.lemmas.Bool.{le-leb, lt-ltb}
 use Rattle.algebra.specs.Ring.{Ops}
 use Rattle.algebra.specs.Quadratic.{quadratic, norm}
@@ -18,10 +19,7 @@ use Rattle.fields.proofs.Among.{only_code, only_outside, among-codes, among_outs
 
 -- Two digits below q.
 pub digits_below : (q x y : ℕ) → x < q → y < q → x + q * y < q * q
-digits_below q x y hx hy =
-    let h : y + 1 ≤ q = omega arith in
-    let step : q * (y + 1) ≤ q * q = mul-le-mul_left q h in
-    omega (arith, step, mul-add q y 1)
+digits_below q x y hx hy = omega (arith, mul-add-lt y q x q hy hx, mul_comm y q)
 
 low_digit : (q x y : ℕ) → x < q → (x + q * y) % q ≡ x
 low_digit q x y h = add-mul-mod_self_left x q y ∙ mod-eq_of_lt h

@@ -1,22 +1,11 @@
 -- The residues modulo m are a commutative ring, for every m above 0, and reading a number modulo m keeps sums and products.
-use Rattle.std.proofs.Common.{◌≡◌, ℕ, suc, ◌+◌, ◌-◌, ◌*◌, ◌/◌, ◌%◌, ◌<◌, sym, refl, ap, ◌∙◌, add-zero, add_assoc, mod-lt, mod-eq_of_lt, mul_assoc, mul_comm, add-mul, add_comm, mul-one, mul-add, arith}
+use Rattle.std.proofs.Common.{◌≡◌, ℕ, suc, ◌+◌, ◌-◌, ◌*◌, ◌%◌, ◌<◌, sym, refl, ap, ◌∙◌, add-zero, add_assoc, mod-lt, mod-eq_of_lt, mul_assoc, mul_comm, add_comm, mul-one, mul-add, arith}
 use mathlib.Core.HLevel.{Σ_set, prop→set}
-use native.Mathlib.Nat.{ℕ_set, mod-mod, mod-add-mod, add-mod-mod, mod_self, mod-add-div, add-mul-mod_self_left}
+use native.Mathlib.Nat.{ℕ_set, mod-mod, mod-add-mod, add-mod-mod, mod_self}
 use native.Mathlib.Bridge.{le_prop}
+use Rattle.std.proofs.lemmas.Nat.{mul-mod_first, mul-mod_second}
 use Rattle.algebra.specs.Ring.{Ops, Laws}
 use Rattle.fields.proofs.Codes.{Code, code_path}
-
--- a factor may be reduced first
-pub mod_mul_mod : (a b m : ℕ) → (a % m * b) % m ≡ (a * b) % m
-mod_mul_mod a b m =
-    sym (add-mul-mod_self_left (a % m * b) m (a / m * b))
-    ∙ ap (λ t. (a % m * b + t) % m) (sym (mul_assoc m (a / m) b))
-    ∙ ap (λ t. t % m) (sym (add-mul (a % m) (m * (a / m)) b))
-    ∙ ap (λ t. (t * b) % m) (mod-add-div a m)
-
-pub mul_mod_mod : (a b m : ℕ) → (a * (b % m)) % m ≡ (a * b) % m
-mul_mod_mod a b m =
-    ap (λ t. t % m) (mul_comm a (b % m)) ∙ mod_mul_mod b a m ∙ ap (λ t. t % m) (mul_comm b a)
 
 module _ (m : ℕ) (some : 0 < m) where
   -- a number modulo m
@@ -44,10 +33,10 @@ module _ (m : ℕ) (some : 0 < m) where
         add_neg = λ a.
             code_path (add-mod-mod a.0 (m - a.0) m ∙ ap (λ t. t % m) (omega (arith, a.1)) ∙ mod_self m);
         mul_comm = λ a b. code_path (ap (λ t. t % m) (mul_comm a.0 b.0));
-        mul_assoc = λ a b c. code_path (mod_mul_mod (a.0 * b.0) c.0 m ∙ ap (λ t. t % m) (mul_assoc a.0 b.0 c.0) ∙ sym (mul_mod_mod a.0 (b.0 * c.0) m));
-        mul_unit = λ a. code_path (mul_mod_mod a.0 1 m ∙ ap (λ t. t % m) (mul-one a.0) ∙ mod-eq_of_lt a.1);
+        mul_assoc = λ a b c. code_path (mul-mod_first (a.0 * b.0) c.0 m ∙ ap (λ t. t % m) (mul_assoc a.0 b.0 c.0) ∙ sym (mul-mod_second a.0 (b.0 * c.0) m));
+        mul_unit = λ a. code_path (mul-mod_second a.0 1 m ∙ ap (λ t. t % m) (mul-one a.0) ∙ mod-eq_of_lt a.1);
         mul-add = λ a b c.
-            code_path (mul_mod_mod a.0 (b.0 + c.0) m
+            code_path (mul-mod_second a.0 (b.0 + c.0) m
             ∙ ap (λ t. t % m) (mul-add a.0 b.0 c.0)
             ∙ sym (mod-add-mod (a.0 * b.0) m ((a.0 * c.0) % m) ∙ add-mod-mod (a.0 * b.0) (a.0 * c.0) m));
       }
@@ -67,7 +56,7 @@ module _ (m : ℕ) (some : 0 < m) where
 
   pub residue-mul : (a b : ℕ) → residue (a * b) ≡ ring.mul (residue a) (residue b)
   unfolding residue ring
-  residue-mul a b = code_path (sym (mod_mul_mod a (b % m) m ∙ mul_mod_mod a b m))
+  residue-mul a b = code_path (sym (mul-mod_first a (b % m) m ∙ mul-mod_second a b m))
 
   pub residue-modulus : residue m ≡ ring.nil
   unfolding residue ring

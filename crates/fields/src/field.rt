@@ -24,3 +24,28 @@ pub trait Field {
     fn inverse(&self, a: u32) -> u32
         ensures { result ≡ (meaning self.now).inverse a };
 }
+
+// A field that is lent is a field, so that two of its users can share it.
+impl<F: Field> Field for &F {
+    ghost meaning = { λ f. F.Field.meaning f.now };
+
+    fn size(&self) -> u32 {
+        F::size(self)
+    }
+
+    fn sum(&self, a: u32, b: u32) -> u32 {
+        F::sum(self, a, b)
+    }
+
+    fn product(&self, a: u32, b: u32) -> u32 {
+        F::product(self, a, b)
+    }
+
+    fn negative(&self, a: u32) -> u32 {
+        F::negative(self, a)
+    }
+
+    fn inverse(&self, a: u32) -> u32 {
+        F::inverse(self, a)
+    }
+}

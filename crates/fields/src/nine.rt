@@ -6,7 +6,7 @@ ghost use Rattle.fields.specs.Nine.{nine, entry_of};
 use crate::field::Field;
 
 // Code a + 3·b stands for a + b·i, with a and b modulo 3 and i² = 2.
-#[derive(Clone, Copy)]
+#[derive(Clone, Copy, Debug, Default, PartialEq, Eq, Hash)]
 pub struct Nine;
 
 const SUMS: [[u8; 9]; 9] = [

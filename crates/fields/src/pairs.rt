@@ -1,5 +1,5 @@
 // Pairs over a field: the field below with a square root of one of its elements adjoined.
-ghost use Rattle.std.specs.Prelude.{◌≡◌, ◌≤◌, IfOk, Ok, Err, MatchResult};
+ghost use Rattle.std.specs.Prelude.{◌≡◌, ◌*◌, ◌/◌, ◌%◌, ◌<◌, ◌≤◌, IfOk, Ok, Err, Some, None, MatchResult};
 ghost use Rattle.fields.specs.Lawful.{Lawful};
 ghost use Rattle.fields.specs.Pairs.{join, pairs, square_below, pairs_answer, RootTold};
 
@@ -7,7 +7,7 @@ use crate::field::Field;
 use crate::refusal::FieldRefusal;
 
 // Code a + q·b stands for a + b·t, where q is the size of the field below, t² = r, and r is no square below.
-#[derive(Drop)]
+#[derive(Debug, Drop, PartialEq, Eq, Hash)]
 pub struct Pairs<F: Field> {
     below: F,
     q: u8,
@@ -22,18 +22,34 @@ impl<F: Field> Pairs<F> {
         ensures told { RootTold (F.Field.meaning below) r (pairs_answer (F.Field.meaning below) r) }
         ensures lawful { Lawful (F.Field.meaning below) → IfOk result (λ p. Lawful (pairs (F.Field.meaning p.below) p.q p.r)) }
     {
-        let q = below.size();
-        if q > 255 {
+        let size = below.size();
+        let Ok(q) = u8::try_from(size) else {
             return Err((below, FieldRefusal::TooManyElements));
-        }
-        if r >= q {
+        };
+        if r >= size {
             return Err((below, FieldRefusal::NotACode));
         }
-        if is_square(&below, r, q) {
+        if is_square(&below, r, size) {
             return Err((below, FieldRefusal::Square));
         }
-        let q = q as u8;
         Ok(Pairs { below, q, r })
+    }
+
+    // x and y of the element x + y·t that a code stands for.
+    fn parts(&self, a: u32) -> Option<(u32, u32)>
+        ensures code { a < self.now.q * self.now.q → result ≡ Some (a % self.now.q, a / self.now.q) }
+        ensures outside { self.now.q * self.now.q ≤ a → result ≡ None }
+    {
+        let q = self.q as u32;
+        (a < q * q).then(|| (a % q, a / q))
+    }
+
+    // The code of x + y·t.
+    fn joined(&self, x: u32, y: u32) -> u32
+        ensures { result ≡ join self.now.q x y }
+    {
+        let q = self.q as u32;
+        if x < q && y < q { x + q * y } else { 0 }
     }
 }
 
@@ -45,73 +61,55 @@ impl<F: Field> Field for Pairs<F> {
     }
 
     fn sum(&self, a: u32, b: u32) -> u32 {
-        let q = self.q as u32;
-        if a >= q * q || b >= q * q {
+        let (Some((x, y)), Some((u, v))) = (self.parts(a), self.parts(b)) else {
             return 0;
-        }
-        let x = self.below.sum(a % q, b % q);
-        let y = self.below.sum(a / q, b / q);
-        joined(q, x, y)
+        };
+        self.joined(self.below.sum(x, u), self.below.sum(y, v))
     }
 
+    // (x + y·t)·(u + v·t) = x·u + y·v·r + (x·v + y·u)·t
     fn product(&self, a: u32, b: u32) -> u32 {
-        let q = self.q as u32;
-        if a >= q * q || b >= q * q {
+        let (Some((x, y)), Some((u, v))) = (self.parts(a), self.parts(b)) else {
             return 0;
-        }
-        let square = self.below.product(a / q, b / q);
-        let x = self.below.sum(
-            self.below.product(a % q, b % q),
-            self.below.product(square, self.r),
+        };
+        let first = self.below.sum(
+            self.below.product(x, u),
+            self.below.product(self.below.product(y, v), self.r),
         );
-        let y = self.below.sum(
-            self.below.product(a % q, b / q),
-            self.below.product(a / q, b % q),
-        );
-        joined(q, x, y)
+        let second = self
+            .below
+            .sum(self.below.product(x, v), self.below.product(y, u));
+        self.joined(first, second)
     }
 
     fn negative(&self, a: u32) -> u32 {
-        let q = self.q as u32;
-        if a >= q * q {
+        let Some((x, y)) = self.parts(a) else {
             return 0;
-        }
-        joined(q, self.below.negative(a % q), self.below.negative(a / q))
+        };
+        self.joined(self.below.negative(x), self.below.negative(y))
     }
 
+    // The inverse of x + y·t is (x − y·t)/(x² − y²·r).
     fn inverse(&self, a: u32) -> u32 {
-        let q = self.q as u32;
-        if a >= q * q {
+        let Some((x, y)) = self.parts(a) else {
             return 0;
-        }
-        let square = self.below.product(a / q, a / q);
+        };
         let norm = self.below.sum(
-            self.below.product(a % q, a % q),
-            self.below.negative(self.below.product(square, self.r)),
+            self.below.product(x, x),
+            self.below
+                .negative(self.below.product(self.below.product(y, y), self.r)),
         );
         let over = self.below.inverse(norm);
-        let x = self.below.product(a % q, over);
-        let y = self.below.product(self.below.negative(a / q), over);
-        joined(q, x, y)
+        self.joined(
+            self.below.product(x, over),
+            self.below.product(self.below.negative(y), over),
+        )
     }
-}
-
-// The code of a + b·t.
-fn joined(q: u32, a: u32, b: u32) -> u32
-    requires { q ≤ 255 }
-    ensures { result ≡ join q a b }
-{
-    if a < q && b < q { a + q * b } else { 0 }
 }
 
 // Whether r is the square of a code below n.
 fn is_square<F: Field>(field: &F, r: u32, n: u32) -> bool
     ensures { result ≡ square_below (F.Field.meaning field.now) r n }
 {
-    for x in 0..n {
-        if field.product(x, x) == r {
-            return true;
-        }
-    }
-    false
+    (0..n).any(|x| field.product(x, x) == r)
 }

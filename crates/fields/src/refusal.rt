@@ -2,10 +2,11 @@
 ghost use Rattle.std.specs.Prelude.{◌≡◌};
 ghost use Rattle.fields.specs.Refusals.{refusal_number, refusal_code};
 
+use std::error::Error;
 use std::fmt;
 
 // The conditions on which the making of a field is refused. Each has a number; two of them share 2.
-#[derive(Clone, Copy)]
+#[derive(Clone, Copy, Debug, PartialEq, Eq, Hash)]
 pub enum FieldRefusal {
     // 2: the modulus is even, below 3 or above 8,191
     Modulus,
@@ -22,7 +23,8 @@ pub enum FieldRefusal {
 }
 
 impl FieldRefusal {
-    // The number of the condition.
+    // The number of the condition. A conversion to a number would say less than this name: two conditions share 2, and the
+    // code of 6 is left out.
     pub fn number(self) -> u8
         ensures { result ≡ refusal_number self }
     {
@@ -65,3 +67,5 @@ impl fmt::Display for FieldRefusal {
         }
     }
 }
+
+impl Error for FieldRefusal {}

@@ -1,13 +1,13 @@
 // The residues modulo m, on a table of inverses that the caller lends.
-ghost use Rattle.std.specs.Prelude.{◌≡◌, ◌-◌, ◌*◌, ◌/◌, ◌%◌, ◌<◌, true, length, replicate, is_ok, None};
+ghost use Rattle.std.specs.Prelude.{◌≡◌, ◌-◌, ◌*◌, ◌/◌, ◌%◌, ◌<◌, true, length, is_ok, OnOk};
 ghost use Rattle.fields.specs.Lawful.{Lawful};
-ghost use Rattle.fields.specs.Residues.{taken, inverses, without_inverse, residues, residues_by, fill_answer, fill_leaves, Filled, InversesTold};
+ghost use Rattle.fields.specs.Residues.{taken, inverses, without_inverse, residues, residues_by, filled_or, fill_answer, fill_leaves, Filled, InversesTold};
 
 use crate::field::Field;
 use crate::refusal::FieldRefusal;
 
 // The residues modulo m, m odd from 3 to 8,191, where every code but 0 has an inverse.
-#[derive(Clone, Copy)]
+#[derive(Clone, Copy, Debug, PartialEq, Eq, Hash)]
 pub struct Residues<'t> {
     modulus: u16,
     inverses: &'t [u16],
@@ -28,13 +28,11 @@ impl<'t> Residues<'t> {
         if table.len() != m as usize {
             return Err(FieldRefusal::TableLength);
         }
-        match invert_codes(m, table) {
-            None => Ok(()),
-            Some(a) => {
-                clear(table);
-                Err(FieldRefusal::NoInverse(a))
-            }
+        let filled = invert_codes(m, table);
+        if filled.is_err() {
+            table.fill(0);
         }
+        filled
     }
 
     // The field on a table that was filled for m: the residues modulo m.
@@ -74,33 +72,34 @@ impl<'t> Field for Residues<'t> {
     }
 
     fn inverse(&self, a: u32) -> u32 {
-        if a < self.modulus as u32 && (a as usize) < self.inverses.len() {
-            self.inverses[a as usize] as u32
-        } else {
-            0
+        match self.inverses.get(a as usize) {
+            Some(&b) if a < self.modulus as u32 => b as u32,
+            _ => 0,
         }
     }
 }
 
-// Entry a becomes the inverse of a for every code, or the smallest code from 1 on without an inverse is answered.
+// Entry a becomes the inverse of a for every code; or the smallest code from 1 on without an inverse is refused.
 //
-// With m = q·a + r, r below a, the inverse of a is −q times that of r; and where r is 0, a divides m and has none.
-fn invert_codes(m: u16, table: &mut [u16]) -> Option<u16>
-    requires { (taken m ≡ true) × (length table.old ≡ m) }
-    ensures answer { result ≡ without_inverse m }
-    ensures left { result ≡ None → table.new ≡ inverses m }
+// With m = q·a + r, r below a, the inverse of a is −q times that of r; and where r is 0, a divides m and has none. Each entry
+// is made from an earlier one, so the loop goes by codes, and not over the entries.
+fn invert_codes(m: u16, table: &mut [u16]) -> Result<(), FieldRefusal>
+    requires modulus { taken m ≡ true }
+    requires entries { length table.old ≡ m }
+    ensures answer { result ≡ filled_or (without_inverse m) }
+    ensures left { OnOk result (table.new ≡ inverses m) }
 {
     table[0] = 0;
     table[1] = 1;
     for a in 2..m {
         let rest = m % a;
         if rest == 0 {
-            return Some(a);
+            return Err(FieldRefusal::NoInverse(a));
         }
         let back = table[rest as usize];
         table[a as usize] = opposite(m, m / a, back);
     }
-    None
+    Ok(())
 }
 
 // −a·b modulo m.
@@ -110,13 +109,4 @@ fn opposite(m: u16, a: u16, b: u16) -> u16
 {
     let product = (a as u32 * b as u32) % m as u32;
     ((m as u32 - product) % m as u32) as u16
-}
-
-// Zeros in every entry.
-fn clear(table: &mut [u16])
-    ensures { table.new ≡ replicate (length table.old) 0 }
-{
-    for x in table.iter_mut() {
-        *x = 0;
-    }
 }

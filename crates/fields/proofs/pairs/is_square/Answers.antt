@@ -1,13 +1,11 @@
-use Rattle.std.proofs.Common.{sym, ◌∙◌}
-use Rattle.fields.proofs.Squares.{root_found, no_root_more}
+use Rattle.std.proofs.Common.{eqb, refl, ◌∙◌, arith, rules, tests}
+use Rattle.std.proofs.lemmas.Iterator.{YieldsList-from_range}
+use Rattle.std.proofs.lemmas.Iterator.Search.{any_from_yields_List}
+use Rattle.fields.proofs.Squares.{list_any-squares}
 use Rattle.fields.proofs.pairs.is_square.Goals as goal
 
-pub returns-then-product-r : goal.returns-then-product-r
-returns-then-product-r g c =
-    sym (root_found (g.F.Field.meaning c.args.field.now) c.args.r c.args.n c.loop-x.x c.loop-x-test.true
-    (sym c.product.ensures ∙ c.if-product-r.true))
-
-pub loop-x-preserved : goal.loop-x-preserved
-loop-x-preserved g c =
-    no_root_more (g.F.Field.meaning c.args.field.now) c.args.r c.loop-x.x c.loop-x.invariant
-    (λ e. c.if-product-r.false (c.product.ensures ∙ e))
+pub returns : goal.returns
+returns g c =
+    let K = g.F.Field.meaning c.args.field.now in
+    any_from_yields_List (λ x. eqb (K.times x x) c.args.r) _ _ _ c.any.ensures.ran (YieldsList-from_range 0 c.args.n c.args.n refl (omega arith)) (λ x b q k. search (rules, tests))
+    ∙ list_any-squares K c.args.r c.args.n

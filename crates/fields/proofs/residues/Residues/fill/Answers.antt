@@ -1,21 +1,12 @@
-use Rattle.std.proofs.Common.{sym, rules}
-use Rattle.fields.proofs.LawfulResidues.{taken_bounds, all_told, first_told}
+use Rattle.std.proofs.Common.{sym, subst, rules}
+use Rattle.fields.specs.Residues.{InversesTold}
+use Rattle.fields.proofs.LawfulResidues.{taken_bounds, inverses_told}
 use Rattle.fields.proofs.residues.Residues.fill.Goals as goal
 
-pub returns-in-None : goal.returns-in-None
-returns-in-None c =
-    record {
-      answer = search rules;
-      left = search rules;
-      filled = search rules;
-      told = all_told c.args.m (taken_bounds c.args.m (search rules)) (sym c.in-None.ensures.answer);
-    }
+pub returns-then-is_err-clause-told : goal.returns-then-is_err-clause-told
+returns-then-is_err-clause-told c =
+    subst (InversesTold c.args.m) (sym c.invert_codes-filled.ensures.answer) (inverses_told c.args.m (taken_bounds c.args.m (search rules)))
 
-pub returns-in-Some : goal.returns-in-Some
-returns-in-Some c =
-    record {
-      answer = search rules;
-      left = search rules;
-      filled = search rules;
-      told = first_told c.args.m c.in-Some.a (taken_bounds c.args.m (search rules)) (sym c.in-Some.ensures.answer);
-    }
+pub returns-else-is_err-clause-told : goal.returns-else-is_err-clause-told
+returns-else-is_err-clause-told c =
+    subst (InversesTold c.args.m) (sym c.invert_codes-filled.ensures.answer) (inverses_told c.args.m (taken_bounds c.args.m (search rules)))
