@@ -2,9 +2,9 @@
 use Rattle.std.proofs.Common.{◌≡◌, List, sym, ◌∙◌}
 use Rattle.fields.specs.declared.field.Field.{Ghosts}
 use Rattle.methods.specs.Methods.{Law, LawfulMethod}
-use Rattle.calculator.specs.declared.call.Answer.{Answer}
 use Rattle.calculator.specs.declared.call.Call.{Call}
 use Rattle.calculator.specs.declared.calculator.Calculator.{Calculator}
+use Rattle.calculator.specs.Calls.{Answer}
 use Rattle.calculator.specs.Calculators.{held, Fresh, Sound, LeftAll, SameModel, Agree}
 
 module _ {F G M N : Type 0} {field_1 : Ghosts F} {field_2 : Ghosts G} {law_1 law_2 : Law} where

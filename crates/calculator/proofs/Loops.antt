@@ -1,23 +1,21 @@
 -- A loop that sends calls: what holds after some of them, and how it goes on from call to call.
 use Rattle.std.proofs.Common.{◌≡◌, ℕ, ◌+◌, ◌<◌, ◌≤◌, List, ◌∷◌, ◌++◌, map, length, get_or, take, drop, set, Result, sym, refl, ap, ◌∙◌, append_assoc, append-nil}
 use lib.Seq.{map-set_same}
-use Rattle.std.proofs.lemmas.List.{length-map, get_or-map, map-set, take_more_set, take_all, drop_all, drop_more}
+use Rattle.std.proofs.lemmas.List.{length-map, drop-map, map-set, take_more_set, take_all, drop_all, drop_more}
 use Rattle.fields.specs.declared.field.Field.{Ghosts}
 use Rattle.methods.specs.declared.divisor.Divisor.{Divisor}
 use Rattle.methods.specs.declared.draft.Model.{Model}
 use Rattle.methods.specs.Methods.{Law}
-use Rattle.calculator.specs.declared.call.Answer.{Answer}
 use Rattle.calculator.specs.declared.call.Call.{Call}
 use Rattle.calculator.specs.declared.call.CallRefusal.{CallRefusal}
 use Rattle.calculator.specs.declared.calculator.Calculator.{Calculator}
-use Rattle.calculator.specs.Calls.{given, posted, said, next, reply, nexts, replies}
+use Rattle.calculator.specs.Calls.{Answer, given, posted, said, next, reply, nexts, replies}
 use Rattle.calculator.specs.Calculators.{held, on, Sound, gives, Left, LeftAll}
 
 -- the first of what is left
 left_map : {X Y : Type 0} (f : X → Y) (xs : List X) (i : ℕ) (d : X) → i < length xs
     → drop i (map f xs) ≡ f (get_or xs i d) ∷ drop (i + 1) (map f xs)
-left_map f xs i d lt =
-    drop_more (map f xs) i (f d) (rw length-map lt) ∙ ap (λ y. y ∷ drop (i + 1) (map f xs)) (get_or-map f xs i d (f d) lt)
+left_map f xs i d lt = rw (drop-map f i xs, drop-map f (i + 1) xs, drop_more xs i d lt) refl
 
 -- Over a row of elements, each of which has a call and the place of its answer, after i of them: the calls stand, and those
 -- that are left lead to the end of them all.

@@ -11,12 +11,11 @@ use Rattle.methods.specs.Divisors.{neutral}
 use Rattle.methods.specs.Methods.{Law}
 use Rattle.classes.specs.Settling.{built_neutral}
 use Rattle.classes.proofs.Built.{built_valid, built_settles}
-use Rattle.calculator.specs.declared.call.Answer.{Answer}
 use Rattle.calculator.specs.declared.call.Call.{Call}
 use Rattle.calculator.specs.declared.call.Call.TheVariants.{Enter, Add, Double, Negate, Show}
 use Rattle.calculator.specs.declared.call.CallRefusal.{CallRefusal}
 use Rattle.calculator.specs.declared.calculator.Calculator.{Calculator}
-use Rattle.calculator.specs.Calls.{sixteen_neutral, given, next, nothing, said, verdict, nexts, replies}
+use Rattle.calculator.specs.Calls.{Answer, sixteen_neutral, given, next, nothing, said, verdict, nexts, replies}
 use Rattle.calculator.specs.Accounts.{Account, AllBuilt, AllSettle, admitted, booked, all_booked, accounts}
 use Rattle.calculator.specs.Calculators.{held, arithmetic, Fresh, Sound, gives, Left, LeftAll, Accounted, Settled}
 use Rattle.calculator.proofs.Steps.{step, step-refused}

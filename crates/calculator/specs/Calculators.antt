@@ -9,13 +9,12 @@ use Rattle.methods.specs.declared.curve.Curve.{Curve}
 use Rattle.methods.specs.declared.divisor.Divisor.{Divisor}
 use Rattle.methods.specs.Curves.{Accepted}
 use Rattle.methods.specs.Methods.{Law, LawfulMethod}
-use Rattle.calculator.specs.declared.call.Answer.{Answer}
 use Rattle.calculator.specs.declared.call.Call.{Call}
 use Rattle.calculator.specs.declared.call.CallRefusal.{CallRefusal}
 use Rattle.calculator.specs.declared.call.Exchange.{Exchange}
 use Rattle.calculator.specs.declared.agreement.Comparison.{Comparison}
 use Rattle.calculator.specs.declared.calculator.Calculator.{Calculator}
-use Rattle.calculator.specs.Calls.{sixteen_neutral, given, next, verdict, nexts, replies}
+use Rattle.calculator.specs.Calls.{Answer, sixteen_neutral, given, next, verdict, nexts, replies}
 use Rattle.calculator.specs.Accounts.{Account, AllBuilt, AllSettle, admitted, all_booked, accounts}
 
 -- The calls of a list of exchanges, and their answers; the same of comparisons.

@@ -1,14 +1,12 @@
 -- The five calls on sixteen registers: what a call gives, what it answers and what the registers hold after it, by the sums,
 -- doubles and negatives of divisors. Then the same of calls one after another.
-use Rattle.std.specs.Prelude.{ℕ, cond, List, [], ◌∷◌, replicate, Ok, Err, Result, nat_lt, slice_index_or, slice_set}
+use Rattle.std.specs.Prelude.{ℕ, cond, List, [], ◌∷◌, replicate, None, Some, Option, Ok, Err, Result, nat_lt, slice_index_or, slice_set}
 use Rattle.fields.specs.Arithmetic.{Arithmetic}
 use Rattle.methods.specs.declared.curve.Curve.{Curve}
 use Rattle.methods.specs.declared.divisor.Divisor.{Divisor}
 use Rattle.methods.specs.declared.divisor.DivisorRefusal.{DivisorRefusal}
 use Rattle.methods.specs.Divisors.{neutral, entered, opposite, divisor_refusal_number}
 use Rattle.methods.specs.Methods.{added, doubled}
-use Rattle.calculator.specs.declared.call.Answer.{Answer}
-use Rattle.calculator.specs.declared.call.Answer.TheVariants.{Refused, Shown, Done}
 use Rattle.calculator.specs.declared.call.Call.{Call}
 use Rattle.calculator.specs.declared.call.Call.TheVariants.{Enter, Add, Double, Negate, Show}
 use Rattle.calculator.specs.declared.call.CallRefusal.{CallRefusal}
@@ -63,17 +61,20 @@ next K C rs call = posted rs call (given K C rs call)
 
 -- Accepted, Show answers the divisor, and the others nothing.
 
+abbrev pub Answer : Type 0
+Answer = Result (Option Divisor) CallRefusal
+
 abbrev pub nothing : Result Divisor CallRefusal → Result (Unit {0}) CallRefusal
 nothing (Ok D) = Ok tt
 nothing (Err e) = Err e
 
 abbrev pub done : Result (Unit {0}) CallRefusal → Answer
-done (Ok _) = Done
-done (Err e) = Refused e
+done (Ok _) = Ok None
+done (Err e) = Err e
 
 abbrev pub shown : Result Divisor CallRefusal → Answer
-shown (Ok D) = Shown D
-shown (Err e) = Refused e
+shown (Ok D) = Ok (Some D)
+shown (Err e) = Err e
 
 abbrev pub said : Call → Result Divisor CallRefusal → Answer
 said (Enter t D) r = done (nothing r)
@@ -87,9 +88,8 @@ reply K C rs call = said call (given K C rs call)
 
 -- Whether an answer is a refusal, and which.
 abbrev pub verdict : Answer → Result (Unit {0}) CallRefusal
-verdict (Refused e) = Err e
-verdict (Shown D) = Ok tt
-verdict Done = Ok tt
+verdict (Ok _) = Ok tt
+verdict (Err e) = Err e
 
 -- One call after another.
 

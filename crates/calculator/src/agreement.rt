@@ -10,8 +10,8 @@ use closed_formulas::Closed;
 use fields::Field;
 use methods::{ByPolynomials, Method};
 
-// A call with the places for the answers of two calculators.
-#[derive(Clone, Copy)]
+// A call with the places for the answers of two calculators. An `Exchange` with a pair would number what has names here.
+#[derive(Clone, Copy, Debug, PartialEq, Eq, Hash)]
 pub struct Comparison {
     pub call: Call,
     pub first: Answer,
@@ -20,6 +20,7 @@ pub struct Comparison {
 
 // Sends each call to both calculators. Over fields of one meaning and on the same curve, fresh calculators with any two lawful
 // methods agree.
+#[tactic(auto, using(crate::proofs::Loops::all_done, crate::proofs::Agreeing::agreement))]
 pub fn compare<F: Field, G: Field, M: Method<F>, N: Method<G>>(
     one: &mut Calculator<F, M>,
     other: &mut Calculator<G, N>,
@@ -37,7 +38,9 @@ pub fn compare<F: Field, G: Field, M: Method<F>, N: Method<G>>(
 }
 
 // Sends each call to a calculator with closed formulas over any method and to one with the polynomial method. Over fields of one
-// meaning and on the same curve, fresh ones agree, whatever the method underneath, if it is lawful.
+// meaning and on the same curve, fresh ones agree, whatever the method underneath, if it is lawful. It is `compare` at these
+// methods, but promises more: that either is lawful is proved here, where `compare` leaves it to the caller.
+#[tactic(auto, using(closed_formulas::proofs::Lawful::closed_lawful))]
 pub fn agree<F: Field, G: Field, M: Method<F>>(
     closed: &mut Calculator<F, Closed<M>>,
     plain: &mut Calculator<G, ByPolynomials>,

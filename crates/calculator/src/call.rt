@@ -1,11 +1,12 @@
 // Calls as values, with their answers and refusals.
 ghost use Rattle.std.specs.Prelude.{◌≡◌};
-ghost use Rattle.calculator.specs.Calls.{call_refusal_number, done as done_as, shown as shown_as};
+ghost use Rattle.calculator.specs.Calls.{call_refusal_number};
 
 use methods::{Divisor, DivisorRefusal};
+use std::fmt;
 
 // A call. A target may also be an operand.
-#[derive(Clone, Copy)]
+#[derive(Clone, Copy, Debug, PartialEq, Eq, Hash)]
 pub enum Call {
     // target, divisor
     Enter(u8, Divisor),
@@ -19,8 +20,21 @@ pub enum Call {
     Show(u8),
 }
 
+// The name of the call, then its registers and its divisor.
+impl fmt::Display for Call {
+    fn fmt<W: fmt::Write>(&self, f: &mut fmt::Formatter<W>) -> fmt::Result {
+        match self {
+            Call::Enter(target, divisor) => write!(f, "enter {target} {divisor}"),
+            Call::Add(target, a, b) => write!(f, "add {target} {a} {b}"),
+            Call::Double(target, a) => write!(f, "double {target} {a}"),
+            Call::Negate(target, a) => write!(f, "negate {target} {a}"),
+            Call::Show(register) => write!(f, "show {register}"),
+        }
+    }
+}
+
 // Why a call is refused.
-#[derive(Clone, Copy)]
+#[derive(Clone, Copy, Debug, PartialEq, Eq, Hash)]
 pub enum CallRefusal {
     // 1: a register above 15
     NoSuchRegister,
@@ -29,7 +43,7 @@ pub enum CallRefusal {
 }
 
 impl CallRefusal {
-    // The number of the condition.
+    // The number of the condition. Fields, curves and divisors share these numbers, so it is looked up and is no conversion.
     pub fn number(self) -> u8
         ensures { result ≡ call_refusal_number self }
     {
@@ -40,37 +54,23 @@ impl CallRefusal {
     }
 }
 
-// What a call answers: why it is refused; accepted, Show answers the register's divisor, and the others nothing.
-#[derive(Clone, Copy)]
-pub enum Answer {
-    Refused(CallRefusal),
-    Shown(Divisor),
-    Done,
+// A divisor that is refused refuses the call.
+impl From<DivisorRefusal> for CallRefusal {
+    ghost use Rattle.calculator.specs.declared.call.CallRefusal.TheVariants.{InvalidDivisor};
+
+    ghost from_gives = { λ refusal r. r ≡ InvalidDivisor refusal };
+
+    fn from(refusal: DivisorRefusal) -> CallRefusal {
+        CallRefusal::InvalidDivisor(refusal)
+    }
 }
 
+// What a call answers: accepted, Show the register's divisor, and the others nothing; or why it is refused.
+pub type Answer = Result<Option<Divisor>, CallRefusal>;
+
 // A call with the place for its answer.
-#[derive(Clone, Copy)]
+#[derive(Clone, Copy, Debug, PartialEq, Eq, Hash)]
 pub struct Exchange {
     pub call: Call,
     pub answer: Answer,
-}
-
-// The answer of a call that shows nothing.
-pub fn done(r: Result<(), CallRefusal>) -> Answer
-    ensures { result ≡ done_as r }
-{
-    match r {
-        Ok(()) => Answer::Done,
-        Err(why) => Answer::Refused(why),
-    }
-}
-
-// The answer of a call that shows a divisor.
-pub fn shown(r: Result<Divisor, CallRefusal>) -> Answer
-    ensures { result ≡ shown_as r }
-{
-    match r {
-        Ok(divisor) => Answer::Shown(divisor),
-        Err(why) => Answer::Refused(why),
-    }
 }

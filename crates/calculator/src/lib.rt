@@ -8,4 +8,5 @@ pub use call::{Answer, Call, CallRefusal, Exchange};
 mod agreement;
 mod calculator;
 mod call;
+mod register;
 mod registers;

@@ -1,11 +1,12 @@
 // Sixteen registers, each of which holds a divisor.
-ghost use Rattle.std.specs.Prelude.{◌≡◌, ◌<◌};
-ghost use Rattle.calculator.specs.Calls.{at, sixteen_neutral, or_invalid, nothing, put};
+ghost use Rattle.std.specs.Prelude.{◌≡◌, slice_set};
+ghost use Rattle.calculator.specs.Calls.{at, sixteen_neutral};
 
-use crate::call::CallRefusal;
-use methods::{Divisor, DivisorRefusal};
+use crate::register::Register;
+use methods::Divisor;
 
-#[derive(Clone, Copy)]
+// An array, since no call of a calculator allocates.
+#[derive(Clone, Copy, Debug, PartialEq, Eq, Hash)]
 pub struct Registers {
     divisors: [Divisor; 16],
 }
@@ -21,29 +22,16 @@ impl Registers {
     }
 
     // What a register holds.
-    pub fn read(&self, register: u8) -> Divisor
-        requires { register < 16 }
-        ensures { result ≡ at self.now.divisors register }
+    pub fn read(&self, register: Register) -> Divisor
+        ensures { result ≡ at self.now.divisors register.number }
     {
-        self.divisors[register as usize]
+        self.divisors[usize::from(register)]
     }
 
-    // Puts the divisor that a call gives into its target; or, if it is refused, changes nothing.
-    pub fn put(
-        &mut self,
-        target: u8,
-        given: Result<Divisor, DivisorRefusal>,
-    ) -> Result<(), CallRefusal>
-        requires { target < 16 }
-        ensures answer { result ≡ nothing (or_invalid given) }
-        ensures after { self.new.divisors ≡ put self.old.divisors target (or_invalid given) }
+    // Puts a divisor into a register, and leaves the others.
+    pub fn put(&mut self, target: Register, divisor: Divisor)
+        ensures { self.new.divisors ≡ slice_set self.old.divisors target.number divisor }
     {
-        match given {
-            Ok(divisor) => {
-                self.divisors[target as usize] = divisor;
-                Ok(())
-            }
-            Err(why) => Err(CallRefusal::InvalidDivisor(why)),
-        }
+        self.divisors[usize::from(target)] = divisor;
     }
 }

@@ -1,11 +1,7 @@
--- Each turn sends one call to both calculators; after the last, each has been sent the whole list.
-use Rattle.std.proofs.Common.{◌<◌, ◌≤◌, length, refl, arith}
-use Rattle.calculator.proofs.Agreeing.{agreement}
-use Rattle.calculator.proofs.Loops.{none_yet, one_more, all_done}
+-- Each turn sends one call to both calculators.
+use Rattle.std.proofs.Common.{◌<◌, length, refl, arith}
+use Rattle.calculator.proofs.Loops.{one_more}
 use Rattle.calculator.proofs.agreement.compare.Goals as goal
-
-pub loop-comparison-init : goal.loop-comparison-init
-loop-comparison-init g c = (none_yet, none_yet)
 
 pub loop-comparison-preserved : goal.loop-comparison-preserved
 loop-comparison-preserved g c =
@@ -15,10 +11,3 @@ loop-comparison-preserved g c =
       one_more _ _ more c.loop-comparison.invariant.1 refl
           c.send-comparison-in-loop-comparison.ensures.answer c.send-comparison-in-loop-comparison.ensures.left,
     )
-
-pub returns : goal.returns
-returns g c =
-    let end : length c.loop-comparison.comparisons ≤ c.loop-comparison.comparison-index = omega arith in
-    let first = all_done end c.loop-comparison.invariant.0 in
-    let second = all_done end c.loop-comparison.invariant.1 in
-    record { calls = c.loop-comparison.invariant.0.calls; first = first; second = second; agree = agreement first second }
