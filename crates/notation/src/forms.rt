@@ -4,13 +4,13 @@ use methods::{Curve, Divisor, Linear};
 
 // A curve by f4, f3, f2, f1 and f0.
 pub fn curve(text: &str) -> Option<Curve> {
-    let [f4, f3, f2, f1, f0] = row::<5>(text)?;
+    let [f4, f3, f2, f1, f0] = row::<u32, 5>(text)?;
     Some(Curve { f4, f3, f2, f1, f0 })
 }
 
 // A divisor by its degree, u1, u0, v1, v0 and n.
 pub fn divisor(text: &str) -> Option<Divisor> {
-    let [degree, u1, u0, v1, v0, n] = row::<6>(text)?;
+    let [degree, u1, u0, v1, v0, n] = row::<u32, 6>(text)?;
     Some(Divisor {
         degree: u8::try_from(degree).ok()?,
         u: Linear { x1: u1, x0: u0 },

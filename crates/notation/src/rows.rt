@@ -1,9 +1,13 @@
 // Rows of numbers with spaces between.
+use std::str::FromStr;
 
-// The numbers of a text. None where a word is no number below 2³², or where they are fewer or more than the row has.
-pub fn row<const N: usize>(text: &str) -> Option<[u32; N]> {
+// The N numbers of a text. None where a word is no number of the row's type, or where there are fewer numbers or more.
+pub fn row<T: FromStr + Copy + Default, const N: usize>(text: &str) -> Option<[T; N]>
+where
+    T::Err: Drop,
+{
     let mut words = text.split_whitespace();
-    let mut row = [0; N];
+    let mut row = [T::default(); N];
     for place in &mut row {
         *place = words.next()?.parse().ok()?;
     }
