@@ -1,6 +1,7 @@
 -- Bytes behind whole records: what is read, what is written, and how far a run comes.
 use Rattle.std.proofs.Common.{◌≡◌, ℕ, zero, suc, ◌+◌, ◌≤◌, List, [], ◌∷◌, ◌++◌, length, sym, refl, ap, ◌∙◌, ap₂, append_assoc, append-nil, arith, length-append}
 use Rattle.std.proofs.lemmas.List.{take-append-le, drop-append-le}
+use Rattle.run.specs.declared.refusal.Refusal.TheVariants.{Short, Unknown}
 use Rattle.run.specs.declared.reply.Reply.TheVariants.{Refused}
 use Rattle.run.specs.Records.{Command, Reading, end, whole, short, unknown, reading}
 use Rattle.run.specs.Progress.{Progress, step, reply_bytes}
@@ -43,13 +44,13 @@ append_by a b shorter (whole c rest) e w =
     ∙ ap (first c) (shorter rest (omega arith) (sym (ap (λ s. s.stop) is) ∙ w))
     ∙ sym (ap (λ s. joined s (sheet_of b)) is)
 append_by a b shorter (short kind) e w =
-    let is : sheet_of a ≡ stopped (reply_bytes (Refused kind 10)) = sheet_by a ∙ ap (records_by sheet_of) e in
-    let stop : reply_bytes (Refused kind 10) ≡ [] = sym (ap (λ s. s.stop) is) ∙ w in
+    let is : sheet_of a ≡ stopped (reply_bytes (Refused kind Short)) = sheet_by a ∙ ap (records_by sheet_of) e in
+    let stop : reply_bytes (Refused kind Short) ≡ [] = sym (ap (λ s. s.stop) is) ∙ w in
     let z : ◌≡◌ {A = ℕ} 0 1 = cc in
     absurd (omega arith)
 append_by a b shorter (unknown kind) e w =
-    let is : sheet_of a ≡ stopped (reply_bytes (Refused kind 11)) = sheet_by a ∙ ap (records_by sheet_of) e in
-    let stop : reply_bytes (Refused kind 11) ≡ [] = sym (ap (λ s. s.stop) is) ∙ w in
+    let is : sheet_of a ≡ stopped (reply_bytes (Refused kind Unknown)) = sheet_by a ∙ ap (records_by sheet_of) e in
+    let stop : reply_bytes (Refused kind Unknown) ≡ [] = sym (ap (λ s. s.stop) is) ∙ w in
     let z : ◌≡◌ {A = ℕ} 0 1 = cc in
     absurd (omega arith)
 

@@ -2,15 +2,16 @@
 use Rattle.std.proofs.Common.{◌≡◌, ℕ, List, [], ◌∷◌, ◌++◌, Ok, Err, Result, sym, refl, ap, ◌∙◌, subst, append_assoc, append-nil}
 use Rattle.fields.specs.Arithmetic.{Arithmetic}
 use Rattle.fields.specs.Pairs.{pairs, pairs_answer}
-use Rattle.fields.specs.Refusals.{refusal_number}
 use Rattle.fields.specs.Residues.{residues, fill_answer}
 use Rattle.methods.specs.declared.curve.Curve.{Curve}
 use Rattle.methods.specs.declared.divisor.Divisor.{Divisor}
-use Rattle.methods.specs.Curves.{curve_answer, curve_refusal_number}
+use Rattle.methods.specs.Curves.{curve_answer}
 use Rattle.calculator.specs.declared.call.Call.{Call}
 use Rattle.calculator.specs.Calls.{sixteen_neutral, next, nexts}
 use Rattle.calculator.specs.Accounts.{AllSettle, accounts}
 use Rattle.calculator.proofs.Runs.{nexts_settle}
+use Rattle.run.specs.declared.refusal.Refusal.{Refusal}
+use Rattle.run.specs.declared.refusal.Refusal.TheVariants.{Field as RefusedField, Curve as RefusedCurve}
 use Rattle.run.specs.Records.{Command}
 use Rattle.run.specs.Progress.{Progress, start, based, paired, ready, Standing, step, chosen}
 use Rattle.run.specs.Run.{reached, sheet_of}
@@ -33,24 +34,24 @@ module _ (calls : List Call) where
   none_more : (p : Progress) → Holds p calls → Holds p (calls ++ [])
   none_more p h = subst (Holds p) (sym (append-nil calls)) h
 
-  choice_holds : {E : Type 0} (number : E → ℕ) (p : Progress) (kind : ℕ) (q : Progress) (answer : Result (Unit {0}) E)
-      → Holds p calls → Holds q calls → Holds (chosen number p kind q answer).after (calls ++ [])
-  choice_holds number p kind q (Ok _) before after = none_more q after
-  choice_holds number p kind q (Err e) before after = none_more p before
+  choice_holds : {E : Type 0} (why : E → Refusal) (p : Progress) (kind : ℕ) (q : Progress) (answer : Result (Unit {0}) E)
+      → Holds p calls → Holds q calls → Holds (chosen why p kind q answer).after (calls ++ [])
+  choice_holds why p kind q (Ok _) before after = none_more q after
+  choice_holds why p kind q (Err e) before after = none_more p before
 
   fresh_holds : (K : Arithmetic) (C : Curve) → calls ≡ [] → Holds (ready K C sixteen_neutral) calls
   fresh_holds K C empty = sym (ap (nexts K C sixteen_neutral) empty)
 
   turn_holds : (p : Progress) (c : Command) → Turn p c → Holds p calls → Holds (step p c).after (calls ++ sent p c)
   unfolding step
-  turn_holds _ _ (residues_first m) h = choice_holds refusal_number start 1 (based (residues m)) (fill_answer m m) h h
+  turn_holds _ _ (residues_first m) h = choice_holds RefusedField start 1 (based (residues m)) (fill_answer m m) h h
   turn_holds _ _ nine_first h = none_more start h
   turn_holds _ _ (pairs_next K r) h =
-      choice_holds refusal_number (based K) 3 (paired (pairs K K.size r)) (pairs_answer K r) h h
+      choice_holds RefusedField (based K) 3 (paired (pairs K K.size r)) (pairs_answer K r) h h
   turn_holds _ _ (curve_on_base K C) h =
-      choice_holds curve_refusal_number (based K) 4 (ready K C sixteen_neutral) (curve_answer K C) h (fresh_holds K C h)
+      choice_holds RefusedCurve (based K) 4 (ready K C sixteen_neutral) (curve_answer K C) h (fresh_holds K C h)
   turn_holds _ _ (curve_on_pairs K C) h =
-      choice_holds curve_refusal_number (paired K) 4 (ready K C sixteen_neutral) (curve_answer K C) h (fresh_holds K C h)
+      choice_holds RefusedCurve (paired K) 4 (ready K C sixteen_neutral) (curve_answer K C) h (fresh_holds K C h)
   turn_holds _ _ (call_last K C rs c) h =
       ap (λ xs. next K C xs c) h ∙ sym (nexts-append K C sixteen_neutral calls (c ∷ []))
   turn_holds _ _ (none p c late unsent) h =

@@ -1,14 +1,13 @@
 -- A run never writes more than six times the length of its sheet.
-use Rattle.std.proofs.Common.{◌≡◌, ℕ, zero, suc, ◌*◌, ◌≤◌, List, ◌++◌, length, Ok, Err, Result, refl, ap, append_assoc, arith, length-append}
+use Rattle.std.proofs.Common.{◌≡◌, ℕ, zero, suc, ◌*◌, ◌≤◌, List, ◌++◌, length, Some, None, Ok, Err, Result, refl, ap, append_assoc, arith, length-append}
 use Rattle.fields.specs.Pairs.{pairs, pairs_answer}
-use Rattle.fields.specs.Refusals.{refusal_number}
 use Rattle.fields.specs.Residues.{residues, fill_answer}
-use Rattle.methods.specs.Curves.{curve_answer, curve_refusal_number}
-use Rattle.calculator.specs.declared.call.Answer.{Answer}
-use Rattle.calculator.specs.declared.call.Answer.TheVariants.{Refused as RefusedCall, Shown as ShownCall, Done}
+use Rattle.methods.specs.Curves.{curve_answer}
 use Rattle.calculator.specs.declared.call.Call.{Call}
 use Rattle.calculator.specs.declared.call.Call.TheVariants.{Enter, Add, Double, Negate, Show}
-use Rattle.calculator.specs.Calls.{sixteen_neutral, reply}
+use Rattle.calculator.specs.Calls.{Answer, sixteen_neutral, reply}
+use Rattle.run.specs.declared.refusal.Refusal.{Refusal}
+use Rattle.run.specs.declared.refusal.Refusal.TheVariants.{Field as RefusedField, Curve as RefusedCurve}
 use Rattle.run.specs.Records.{Command, least_size, least_size_of_call, Reading, end, whole, short, unknown, reading}
 use Rattle.run.specs.Progress.{Progress, start, based, paired, ready, reply_bytes, replied, step, chosen}
 use Rattle.run.specs.Run.{Sheet, records, sheet_of, written, run_from}
@@ -16,41 +15,41 @@ use Rattle.run.proofs.Order.{Turn, residues_first, nine_first, pairs_next, curve
 use Rattle.run.proofs.Sheets.{records_by, whole_shorter, short_some, unknown_some, least_some}
 
 replied_room : (c : Call) (a : Answer) → length (reply_bytes (replied c a)) ≤ 6 * least_size_of_call c
-replied_room (Enter t D) (RefusedCall e) = omega arith
-replied_room (Enter t D) (ShownCall E) = omega arith
-replied_room (Enter t D) Done = omega arith
-replied_room (Add t a b) (RefusedCall e) = omega arith
-replied_room (Add t a b) (ShownCall E) = omega arith
-replied_room (Add t a b) Done = omega arith
-replied_room (Double t a) (RefusedCall e) = omega arith
-replied_room (Double t a) (ShownCall E) = omega arith
-replied_room (Double t a) Done = omega arith
-replied_room (Negate t a) (RefusedCall e) = omega arith
-replied_room (Negate t a) (ShownCall E) = omega arith
-replied_room (Negate t a) Done = omega arith
-replied_room (Show a) (RefusedCall e) = omega arith
-replied_room (Show a) (ShownCall E) = omega arith
-replied_room (Show a) Done = omega arith
+replied_room (Enter t D) (Err e) = omega arith
+replied_room (Enter t D) (Ok (Some E)) = omega arith
+replied_room (Enter t D) (Ok None) = omega arith
+replied_room (Add t a b) (Err e) = omega arith
+replied_room (Add t a b) (Ok (Some E)) = omega arith
+replied_room (Add t a b) (Ok None) = omega arith
+replied_room (Double t a) (Err e) = omega arith
+replied_room (Double t a) (Ok (Some E)) = omega arith
+replied_room (Double t a) (Ok None) = omega arith
+replied_room (Negate t a) (Err e) = omega arith
+replied_room (Negate t a) (Ok (Some E)) = omega arith
+replied_room (Negate t a) (Ok None) = omega arith
+replied_room (Show a) (Err e) = omega arith
+replied_room (Show a) (Ok (Some E)) = omega arith
+replied_room (Show a) (Ok None) = omega arith
 
-choice_room : {E : Type 0} (number : E → ℕ) (p : Progress) (kind : ℕ) (q : Progress) (answer : Result (Unit {0}) E)
-    → length (reply_bytes (chosen number p kind q answer).reply) ≤ 3
-choice_room number p kind q (Ok _) = omega arith
-choice_room number p kind q (Err e) = omega arith
+choice_room : {E : Type 0} (why : E → Refusal) (p : Progress) (kind : ℕ) (q : Progress) (answer : Result (Unit {0}) E)
+    → length (reply_bytes (chosen why p kind q answer).reply) ≤ 3
+choice_room why p kind q (Ok _) = omega arith
+choice_room why p kind q (Err e) = omega arith
 
 turn_room : (p : Progress) (c : Command) → Turn p c → length (reply_bytes (step p c).reply) ≤ 6 * least_size c
 unfolding step
 turn_room _ _ (residues_first m) =
-    let h = choice_room refusal_number start 1 (based (residues m)) (fill_answer m m) in
+    let h = choice_room RefusedField start 1 (based (residues m)) (fill_answer m m) in
     omega arith
 turn_room _ _ nine_first = omega arith
 turn_room _ _ (pairs_next K r) =
-    let h = choice_room refusal_number (based K) 3 (paired (pairs K K.size r)) (pairs_answer K r) in
+    let h = choice_room RefusedField (based K) 3 (paired (pairs K K.size r)) (pairs_answer K r) in
     omega arith
 turn_room _ _ (curve_on_base K C) =
-    let h = choice_room curve_refusal_number (based K) 4 (ready K C sixteen_neutral) (curve_answer K C) in
+    let h = choice_room RefusedCurve (based K) 4 (ready K C sixteen_neutral) (curve_answer K C) in
     omega arith
 turn_room _ _ (curve_on_pairs K C) =
-    let h = choice_room curve_refusal_number (paired K) 4 (ready K C sixteen_neutral) (curve_answer K C) in
+    let h = choice_room RefusedCurve (paired K) 4 (ready K C sixteen_neutral) (curve_answer K C) in
     omega arith
 turn_room _ _ (call_last K C rs c) = replied_room c (reply K C rs c)
 turn_room _ _ (none p c late unsent) =

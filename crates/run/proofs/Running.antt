@@ -1,34 +1,80 @@
 -- The loop of a run: what it still has to write leads to the bytes of the whole sheet.
-use Rattle.std.proofs.Common.{◌≡◌, ℕ, ◌+◌, ◌*◌, ◌≤◌, List, ◌++◌, length, sym, ap, ◌∙◌, subst, arith, length-append}
+use Rattle.std.proofs.Common.{◌≡◌, ℕ, ◌+◌, ◌*◌, ◌≤◌, List, [], ◌++◌, length, Some, Ok, Err, Result, sym, ap, ◌∙◌, subst, append-nil, arith, length-append}
+use Rattle.run.specs.declared.record.Record.{Record}
+use Rattle.run.specs.declared.record.Records.{Records}
+use Rattle.run.specs.declared.record.Unreadable.{Unreadable}
+use Rattle.run.specs.declared.record.Unreadable.TheVariants.{Short as ShortAt, Unknown as UnknownAt}
+use Rattle.run.specs.declared.refusal.Refusal.TheVariants.{Short, Unknown}
 use Rattle.run.specs.declared.reply.Reply.{Reply}
-use Rattle.run.specs.declared.reply.Reply.TheVariants.{Silent, Refused}
+use Rattle.run.specs.declared.reply.Reply.TheVariants.{Refused}
 use Rattle.run.specs.Buffers.{overwritten}
-use Rattle.run.specs.Records.{Command, end, whole, short, unknown, reading}
+use Rattle.run.specs.Records.{least_size, end, reading}
+use Rattle.run.specs.Meanings.{said_by, NextRecord}
 use Rattle.run.specs.Progress.{Progress, Standing, step, reply_bytes}
 use Rattle.run.specs.Run.{run_from, run_bytes}
 use Rattle.run.specs.Stages.{Obeyed}
-use Rattle.run.proofs.Buffers.{overwritten-more}
-use Rattle.run.proofs.Sheets.{short_some, unknown_some, run_end, run_short, run_unknown, run_whole}
+use Rattle.run.proofs.Buffers.{overwritten-none, overwritten-more}
+use Rattle.run.proofs.Sheets.{reading-none, whole_shorter, short_some, unknown_some, run_end, run_short, run_unknown, run_whole}
 use Rattle.run.proofs.Standing.{step_standing}
 
--- The reply after the last whole record of a sheet, wherever the run has come to.
-pub record Last (rest : List ℕ) (r : Reply) : Type 0 where
-  pub fits : length (reply_bytes r) ≤ 6 * length rest
-  pub runs : (p : Progress) → run_from p rest ≡ reply_bytes r
+-- A reply has six bytes at most for each byte of the sheet that it takes.
+abbrev pub Fits : List ℕ → Reply → List ℕ → Type 0
+Fits rest r after = length (reply_bytes r) + 6 * length after ≤ 6 * length rest
 
-module _ (rest : List ℕ) (r : Reply) where
-  pub last_end : end ≡ reading rest → r ≡ Silent → Last rest r
-  last_end e is = rw is (record { fits = omega arith; runs = λ p. run_end p rest (sym e) })
+-- A reply takes a run from p, with some bytes of the sheet left, to q, with others.
+pub record Turned (p : Progress) (rest : List ℕ) (q : Progress) (r : Reply) (after : List ℕ) : Type 0 where
+  pub standing : Standing q
+  pub runs : run_from p rest ≡ reply_bytes r ++ run_from q after
 
-  pub last_short : (kind : ℕ) → short kind ≡ reading rest → r ≡ Refused kind 10 → Last rest r
-  last_short kind e is =
-      let some = short_some rest kind (sym e) in
-      rw is (record { fits = omega arith; runs = λ p. run_short p rest kind (sym e) })
+-- What comes of the next item that the records of a sheet give.
+module _ (s t : Records) (item : Result Record Unreadable) (gives : NextRecord s (Some item) t) where
+  given : (x : Result Record Unreadable) → item ≡ x → NextRecord s (Some x) t
+  given x is = subst (λ y. NextRecord s (Some y) t) is gives
 
-  pub last_unknown : (kind : ℕ) → unknown kind ≡ reading rest → r ≡ Refused kind 11 → Last rest r
-  last_unknown kind e is =
-      let some = unknown_some rest kind (sym e) in
-      rw is (record { fits = omega arith; runs = λ p. run_unknown p rest kind (sym e) })
+  pub whole_fits : (x : Record) (r : Reply) → item ≡ Ok x → length (reply_bytes r) ≤ 6 * least_size (said_by x) → Fits s.rest.now r t.rest.now
+  whole_fits x r is small = let shorter = whole_shorter s.rest.now (said_by x) t.rest.now (given (Ok x) is) in omega arith
+
+  pub short_fits : (kind : ℕ) → item ≡ Err (ShortAt kind) → Fits s.rest.now (Refused kind Short) t.rest.now
+  short_fits kind is =
+      let e = given (Err (ShortAt kind)) is in
+      let some = short_some s.rest.now kind e.0 in
+      omega (arith, ap length e.1)
+
+  pub unknown_fits : (kind : ℕ) → item ≡ Err (UnknownAt kind) → Fits s.rest.now (Refused kind Unknown) t.rest.now
+  unknown_fits kind is =
+      let e = given (Err (UnknownAt kind)) is in
+      let some = unknown_some s.rest.now kind e.0 in
+      omega (arith, ap length e.1)
+
+  module _ (p : Progress) (stands : Standing p) where
+    pub whole_turned : (x : Record) (q : Progress) (r : Reply) → item ≡ Ok x → Obeyed p (said_by x) q r → Turned p s.rest.now q r t.rest.now
+    whole_turned x q r is obeyed =
+        record {
+          standing = subst Standing (sym obeyed.comes_to) (step_standing p (said_by x) stands);
+          runs =
+              run_whole p s.rest.now (said_by x) t.rest.now (given (Ok x) is)
+              ∙ sym (ap (λ y. reply_bytes y ++ run_from q t.rest.now) obeyed.writes
+              ∙ ap (λ y. reply_bytes (step p (said_by x)).reply ++ run_from y t.rest.now) obeyed.comes_to);
+        }
+
+    last_turned : (r : Reply) → run_from p s.rest.now ≡ reply_bytes r → t.rest.now ≡ [] → Turned p s.rest.now p r t.rest.now
+    last_turned r e none =
+        record {
+          standing = stands;
+          runs =
+              e ∙ sym (append-nil (reply_bytes r))
+              ∙ sym (ap (λ xs. reply_bytes r ++ xs) (ap (run_from p) none ∙ run_end p [] reading-none));
+        }
+
+    pub short_turned : (kind : ℕ) → item ≡ Err (ShortAt kind) → Turned p s.rest.now p (Refused kind Short) t.rest.now
+    short_turned kind is =
+        let e = given (Err (ShortAt kind)) is in
+        last_turned (Refused kind Short) (run_short p s.rest.now kind e.0) e.1
+
+    pub unknown_turned : (kind : ℕ) → item ≡ Err (UnknownAt kind) → Turned p s.rest.now p (Refused kind Unknown) t.rest.now
+    unknown_turned kind is =
+        let e = given (Err (UnknownAt kind)) is in
+        last_turned (Refused kind Unknown) (run_unknown p s.rest.now kind e.0) e.1
 
 -- A run of a sheet has come to p, with n bytes written into the output and these bytes of the sheet left.
 pub record Running (sheet before : List ℕ) (p : Progress) (rest output : List ℕ) (n : ℕ) : Type 0 where
@@ -37,26 +83,23 @@ pub record Running (sheet before : List ℕ) (p : Progress) (rest output : List 
   pub bytes : overwritten output n (run_from p rest) ≡ overwritten before 0 (run_bytes sheet)
 
 module _ (sheet before : List ℕ) (p : Progress) (rest output : List ℕ) (n : ℕ) (running : Running sheet before p rest output n) where
-  pub running_turn : (c : Command) (after : List ℕ) (q : Progress) (r : Reply) (m : ℕ) (output' : List ℕ)
-      → whole c after ≡ reading rest → Obeyed p c q r → n + length (reply_bytes r) ≤ length output
+  pub running_on : (q : Progress) (r : Reply) (after : List ℕ) (m : ℕ) (output' : List ℕ)
+      → Turned p rest q r after → n + length (reply_bytes r) ≤ length output
       → m ≡ n + length (reply_bytes r) → output' ≡ overwritten output n (reply_bytes r)
       → Running sheet before q after output' m
-  running_turn c after q r m output' e obeyed fits place write =
-      let more : run_from p rest ≡ reply_bytes r ++ run_from q after =
-      run_whole p rest c after (sym e)
-      ∙ sym (ap (λ x. reply_bytes x ++ run_from q after) obeyed.writes ∙ ap (λ x. reply_bytes (step p c).reply ++ run_from x after) obeyed.comes_to) in
+  running_on q r after m output' turned fits place write =
       record {
-        standing = subst Standing (sym obeyed.comes_to) (step_standing p c running.standing);
-        count = rw place (omega (arith, running.count, ap length more, length-append (reply_bytes r) (run_from q after)));
+        standing = turned.standing;
+        count = rw place (omega (arith, running.count, ap length turned.runs, length-append (reply_bytes r) (run_from q after)));
         bytes =
             rw (place, write)
-            (overwritten-more output (reply_bytes r) (run_from q after) n fits ∙ ap (overwritten output n) (sym more) ∙ running.bytes);
+            (overwritten-more output (reply_bytes r) (run_from q after) n fits
+            ∙ ap (overwritten output n) (sym turned.runs) ∙ running.bytes);
       }
 
-  pub running_end : (r : Reply) (m : ℕ) (output' : List ℕ) → Last rest r → m ≡ n + length (reply_bytes r)
-      → output' ≡ overwritten output n (reply_bytes r)
-      → (m ≡ length (run_bytes sheet)) × (output' ≡ overwritten before 0 (run_bytes sheet))
-  running_end r m output' last place write = (
-    omega (arith, running.count, ap length (last.runs p)),
-    write ∙ ap (overwritten output n) (sym (last.runs p)) ∙ running.bytes,
-  )
+  pub running_end : reading rest ≡ end → (n ≡ length (run_bytes sheet)) × (output ≡ overwritten before 0 (run_bytes sheet))
+  running_end e =
+      let nothing : run_from p rest ≡ [] = run_end p rest e in (
+        omega (arith, running.count, ap length nothing),
+        overwritten-none output n ∙ sym (ap (overwritten output n) nothing) ∙ running.bytes,
+      )

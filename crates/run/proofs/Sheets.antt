@@ -3,6 +3,7 @@ use Rattle.std.proofs.Common.{◌≡◌, ℕ, zero, suc, ◌+◌, ◌≤◌, Lis
 use Rattle.std.proofs.lemmas.Bool.{cases_lt}
 use Rattle.std.specs.List.{slice_get}
 use Rattle.calculator.specs.declared.call.Call.TheVariants.{Enter, Add, Double, Negate, Show}
+use Rattle.run.specs.declared.refusal.Refusal.TheVariants.{Short, Unknown}
 use Rattle.run.specs.declared.reply.Reply.TheVariants.{Refused}
 use Rattle.run.specs.Records.{Command, modulus, nine_elements, square_root, coefficients, call, Kind, kinds, kind_at, least_size, Reading, end, whole, short, unknown, reading, reading_by}
 use Rattle.run.specs.Progress.{Progress, step, reply_bytes}
@@ -134,8 +135,8 @@ least_some (call (Show a)) = omega arith
 abbrev pub records_by : (List ℕ → Sheet) → Reading → Sheet
 records_by more end = stopped []
 records_by more (whole c rest) = first c (more rest)
-records_by more (short kind) = stopped (reply_bytes (Refused kind 10))
-records_by more (unknown kind) = stopped (reply_bytes (Refused kind 11))
+records_by more (short kind) = stopped (reply_bytes (Refused kind Short))
+records_by more (unknown kind) = stopped (reply_bytes (Refused kind Unknown))
 
 records_by_same : (f g : List ℕ → Sheet) (xs : List ℕ) → ((rest : List ℕ) → length rest + 1 ≤ length xs → f rest ≡ g rest)
     → (r : Reading) → reading xs ≡ r → records_by f r ≡ records_by g r
@@ -179,10 +180,10 @@ module _ (p : Progress) (xs : List ℕ) where
   pub run_end : reading xs ≡ end → run_from p xs ≡ []
   run_end e = run_sheet _ (sheet_read end e)
 
-  pub run_short : (kind : ℕ) → reading xs ≡ short kind → run_from p xs ≡ reply_bytes (Refused kind 10)
+  pub run_short : (kind : ℕ) → reading xs ≡ short kind → run_from p xs ≡ reply_bytes (Refused kind Short)
   run_short kind e = run_sheet _ (sheet_read (short kind) e)
 
-  pub run_unknown : (kind : ℕ) → reading xs ≡ unknown kind → run_from p xs ≡ reply_bytes (Refused kind 11)
+  pub run_unknown : (kind : ℕ) → reading xs ≡ unknown kind → run_from p xs ≡ reply_bytes (Refused kind Unknown)
   run_unknown kind e = run_sheet _ (sheet_read (unknown kind) e)
 
   pub run_whole : (c : Command) (rest : List ℕ) → reading xs ≡ whole c rest

@@ -4,14 +4,15 @@ use Rattle.std.proofs.lemmas.Bool.{leb-true, ltb-true}
 use Rattle.fields.specs.Arithmetic.{Arithmetic}
 use Rattle.fields.specs.Lawful.{Lawful}
 use Rattle.fields.specs.Pairs.{pairs, square_below, pairs_answer}
-use Rattle.fields.specs.Refusals.{refusal_number}
 use Rattle.fields.specs.Residues.{residues, fill_answer}
 use Rattle.fields.specs.declared.refusal.FieldRefusal.{FieldRefusal}
 use Rattle.fields.specs.declared.refusal.FieldRefusal.TheVariants.{TooManyElements, NotACode, Square}
 use Rattle.fields.proofs.LawfulNine.{nine_lawful}
 use Rattle.fields.proofs.LawfulPairs.{made_lawful}
-use Rattle.methods.specs.Curves.{curve_answer, curve_refusal_number}
+use Rattle.methods.specs.Curves.{curve_answer}
 use Rattle.calculator.specs.Calls.{sixteen_neutral}
+use Rattle.run.specs.declared.refusal.Refusal.{Refusal}
+use Rattle.run.specs.declared.refusal.Refusal.TheVariants.{Field as RefusedField, Curve as RefusedCurve}
 use Rattle.run.specs.Records.{Command}
 use Rattle.run.specs.Progress.{Progress, start, based, paired, ready, Standing, step, chosen}
 use Rattle.run.proofs.Order.{Turn, residues_first, nine_first, pairs_next, curve_on_base, curve_on_pairs, call_last, none, turn_of}
@@ -34,22 +35,22 @@ pairs_accepted_lawful K r lawful ok =
     let parts = answer-accepted (leb K.size 255) (ltb r K.size) (square_below K r K.size) ok in
     made_lawful K K.size r refl (leb-true K.size 255 parts.0) (ltb-true r K.size parts.1) parts.2 lawful
 
-choice_standing : {E : Type 0} (number : E → ℕ) (p : Progress) (kind : ℕ) (q : Progress) (answer : Result (Unit {0}) E)
-    → Standing p → (answer ≡ Ok tt → Standing q) → Standing (chosen number p kind q answer).after
-choice_standing number p kind q (Ok _) before made = made refl
-choice_standing number p kind q (Err e) before made = before
+choice_standing : {E : Type 0} (why : E → Refusal) (p : Progress) (kind : ℕ) (q : Progress) (answer : Result (Unit {0}) E)
+    → Standing p → (answer ≡ Ok tt → Standing q) → Standing (chosen why p kind q answer).after
+choice_standing why p kind q (Ok _) before made = made refl
+choice_standing why p kind q (Err e) before made = before
 
 turn_standing : (p : Progress) (c : Command) → Turn p c → Standing p → Standing (step p c).after
 unfolding step
 turn_standing _ _ (residues_first m) s =
-    choice_standing refusal_number start 1 (based (residues m)) (fill_answer m m) s (accepted_lawful m)
+    choice_standing RefusedField start 1 (based (residues m)) (fill_answer m m) s (accepted_lawful m)
 turn_standing _ _ nine_first s = nine_lawful
 turn_standing _ _ (pairs_next K r) s =
-    choice_standing refusal_number (based K) 3 (paired (pairs K K.size r)) (pairs_answer K r) s (pairs_accepted_lawful K r s)
+    choice_standing RefusedField (based K) 3 (paired (pairs K K.size r)) (pairs_answer K r) s (pairs_accepted_lawful K r s)
 turn_standing _ _ (curve_on_base K C) s =
-    choice_standing curve_refusal_number (based K) 4 (ready K C sixteen_neutral) (curve_answer K C) s (λ ok. (s, ok))
+    choice_standing RefusedCurve (based K) 4 (ready K C sixteen_neutral) (curve_answer K C) s (λ ok. (s, ok))
 turn_standing _ _ (curve_on_pairs K C) s =
-    choice_standing curve_refusal_number (paired K) 4 (ready K C sixteen_neutral) (curve_answer K C) s (λ ok. (s, ok))
+    choice_standing RefusedCurve (paired K) 4 (ready K C sixteen_neutral) (curve_answer K C) s (λ ok. (s, ok))
 turn_standing _ _ (call_last K C rs c) s = s
 turn_standing _ _ (none p c late unsent) s = subst Standing (sym (ap (λ x. x.after) late)) s
 

@@ -2,6 +2,7 @@ pub mod Bytes
 pub mod Choices
 pub mod Buffers
 pub mod Records
+pub mod Refusals
 pub mod Progress
 pub mod Run
 pub mod Laws

@@ -1,6 +1,9 @@
 -- The run of a sheet: what is written, record for record, and what the call of a host program answers and leaves.
-use Rattle.std.specs.Prelude.{ℕ, zero, suc, ◌+◌, cond, List, [], ◌∷◌, ◌++◌, length, drop, ◌==◌, nat_le}
+use Rattle.std.specs.Prelude.{ℕ, zero, suc, ◌+◌, cond, List, [], ◌∷◌, ◌++◌, length, drop, Ok, Err, Result, ◌==◌, nat_le}
 use Rattle.run.specs.declared.reply.Reply.TheVariants.{Refused}
+use Rattle.run.specs.declared.refusal.Refusal.TheVariants.{Sheet as RefusedSheet, Short, Unknown}
+use Rattle.run.specs.declared.refusal.SheetRefusal.{SheetRefusal}
+use Rattle.run.specs.declared.refusal.SheetRefusal.TheVariants.{OutputLength, SheetLength}
 use Rattle.run.specs.Records.{Command, end, whole, short, unknown, reading}
 use Rattle.run.specs.Progress.{Progress, start, reply_bytes, step}
 
@@ -22,8 +25,8 @@ records (suc n) bytes =
     elim (reading bytes) [
       | end ↦ stopped []
       | whole c rest ↦ first c (records n rest)
-      | short kind ↦ stopped (reply_bytes (Refused kind 10))
-      | unknown kind ↦ stopped (reply_bytes (Refused kind 11))
+      | short kind ↦ stopped (reply_bytes (Refused kind Short))
+      | unknown kind ↦ stopped (reply_bytes (Refused kind Unknown))
     ]
 
 -- A record takes a byte at least.
@@ -54,9 +57,13 @@ by_size sheet output bad_output bad_sheet x = cond (length output == 24576) (con
 abbrev pub run_answer : List ℕ → List ℕ → ℕ
 run_answer sheet output = by_size sheet output (65536 + 3) (65536 + 13) (length (run_bytes sheet))
 
+-- the same as a count of bytes or a refusal
+abbrev pub run_result : List ℕ → List ℕ → Result ℕ SheetRefusal
+run_result sheet output = by_size sheet output (Err OutputLength) (Err SheetLength) (Ok (length (run_bytes sheet)))
+
 abbrev pub run_output : List ℕ → List ℕ → List ℕ
 run_output sheet output = by_size sheet output output output (run_bytes sheet ++ drop (length (run_bytes sheet)) output)
 
 -- The program writes the bytes of the run; a sheet of over 4,096 bytes gets 17, 0 and 13.
 abbrev pub program_bytes : List ℕ → List ℕ
-program_bytes sheet = cond (nat_le (length sheet) 4096) (run_bytes sheet) (reply_bytes (Refused 0 13))
+program_bytes sheet = cond (nat_le (length sheet) 4096) (run_bytes sheet) (reply_bytes (Refused 0 (RefusedSheet SheetLength)))

@@ -2,12 +2,14 @@
 #![tactic(auto)]
 
 pub use field::{Base, Chosen, OneOf};
-pub use record::{CallRecord, Front, Record, curve, divisor, divisor_bytes, kind_of, read};
+pub use record::{CallRecord, Record, Unreadable, curve, divisor, divisor_bytes, kind_of, read};
+pub use refusal::{Refusal, SheetRefusal};
 pub use reply::Reply;
 pub use run::{answer, run_by, zafindoro_run};
 
 mod field;
 mod record;
+mod refusal;
 mod reply;
 mod run;
 mod stage;

@@ -1,14 +1,15 @@
 // Records, read from the front of a sheet.
-ghost use Rattle.std.specs.Prelude.{◌≡◌, ◌+◌, ◌*◌, ◌/◌, ◌%◌};
+ghost use Rattle.std.specs.Prelude.{◌≡◌, ◌+◌, ◌*◌, ◌/◌, ◌%◌, length};
+ghost use Rattle.std.specs.Iterator.{at_most};
 ghost use Rattle.run.specs.Bytes.{curve_at, divisor_at, divisor_bytes};
 ghost use Rattle.run.specs.Records.{kind_of_call, kind_of, reading};
-ghost use Rattle.run.specs.Meanings.{called_by, said_by, read_as};
+ghost use Rattle.run.specs.Meanings.{called_by, said_by, read_as, NextRecord};
 
 use calculator::Call;
 use methods::{Curve, Divisor, Linear};
 
 // A record, whose bodies of a curve and of a divisor are parts of the sheet.
-#[derive(Clone, Copy)]
+#[derive(Clone, Copy, Debug, PartialEq, Eq)]
 pub enum Record<'s> {
     Residues(u16),
     Nine,
@@ -18,7 +19,7 @@ pub enum Record<'s> {
 }
 
 // A record that calls the calculator.
-#[derive(Clone, Copy)]
+#[derive(Clone, Copy, Debug, PartialEq, Eq)]
 pub enum CallRecord<'s> {
     // register, divisor
     Enter(u8, &'s [u8; 10]),
@@ -42,17 +43,17 @@ impl Record<'_> {
             Record::Nine => 2,
             Record::Pairs(_) => 3,
             Record::Curve(_) => 4,
-            Record::Call(call) => kind_of(call.call()),
+            Record::Call(call) => kind_of(call.into()),
         }
     }
 }
 
-impl CallRecord<'_> {
-    // The call that the record makes.
-    pub fn call(self) -> Call
-        ensures { result ≡ called_by self.entry }
-    {
-        match self {
+// The call that a record makes.
+impl<'s> From<CallRecord<'s>> for Call {
+    ghost from_gives = { λ r call. call ≡ called_by r };
+
+    fn from(r: CallRecord<'s>) -> Call {
+        match r {
             CallRecord::Enter(t, body) => Call::Enter(t, divisor(body)),
             CallRecord::Add(t, a, b) => Call::Add(t, a, b),
             CallRecord::Double(t, a) => Call::Double(t, a),
@@ -75,46 +76,78 @@ pub fn kind_of(call: Call) -> u8
     }
 }
 
-// What stands first on a sheet.
-#[derive(Clone, Copy)]
-pub enum Front<'s> {
-    End,
-    Whole(Record<'s>, &'s [u8]),
+// Why there is no record first on a sheet, with the kind byte that stands there.
+#[derive(Clone, Copy, Debug, PartialEq, Eq, Hash)]
+pub enum Unreadable {
+    // the sheet ends inside the record
     Short(u8),
+    // no record has this kind
     Unknown(u8),
 }
 
-// The first record of the sheet and the rest, or why there is none.
-pub fn read<'s>(sheet: &'s [u8]) -> Front<'s>
+// The first record of the sheet and the rest, if any byte is left.
+pub fn read<'s>(sheet: &'s [u8]) -> Result<Option<(Record<'s>, &'s [u8])>, Unreadable>
     ensures { read_as result ≡ reading sheet.now }
 {
     match sheet {
-        [] => Front::End,
-        [1, low, high, rest @ ..] => Front::Whole(Record::Residues(code(*low, *high)), rest),
-        [2, rest @ ..] => Front::Whole(Record::Nine, rest),
-        [3, low, high, rest @ ..] => Front::Whole(Record::Pairs(code(*low, *high)), rest),
-        [4, rest @ ..] => match rest.split_first_chunk::<10>() {
-            Some((body, rest)) => Front::Whole(Record::Curve(body), rest),
-            None => Front::Short(4),
-        },
-        [5, t, rest @ ..] => match rest.split_first_chunk::<10>() {
-            Some((body, rest)) => Front::Whole(Record::Call(CallRecord::Enter(*t, body)), rest),
-            None => Front::Short(5),
-        },
-        [6, t, a, b, rest @ ..] => Front::Whole(Record::Call(CallRecord::Add(*t, *a, *b)), rest),
-        [7, t, a, rest @ ..] => Front::Whole(Record::Call(CallRecord::Double(*t, *a)), rest),
-        [8, t, a, rest @ ..] => Front::Whole(Record::Call(CallRecord::Negate(*t, *a)), rest),
-        [9, a, rest @ ..] => Front::Whole(Record::Call(CallRecord::Show(*a)), rest),
-        [kind @ 1..=9, ..] => Front::Short(*kind),
-        [kind, ..] => Front::Unknown(*kind),
+        [] => Ok(None),
+        [1, low, high, rest @ ..] => {
+            Ok(Some((Record::Residues(u16::from_le_bytes([*low, *high])), rest)))
+        }
+        [2, rest @ ..] => Ok(Some((Record::Nine, rest))),
+        [3, low, high, rest @ ..] => {
+            Ok(Some((Record::Pairs(u16::from_le_bytes([*low, *high])), rest)))
+        }
+        [4, rest @ ..] => {
+            let (body, rest) = rest.split_first_chunk::<10>().ok_or(Unreadable::Short(4))?;
+            Ok(Some((Record::Curve(body), rest)))
+        }
+        [5, t, rest @ ..] => {
+            let (body, rest) = rest.split_first_chunk::<10>().ok_or(Unreadable::Short(5))?;
+            Ok(Some((Record::Call(CallRecord::Enter(*t, body)), rest)))
+        }
+        [6, t, a, b, rest @ ..] => Ok(Some((Record::Call(CallRecord::Add(*t, *a, *b)), rest))),
+        [7, t, a, rest @ ..] => Ok(Some((Record::Call(CallRecord::Double(*t, *a)), rest))),
+        [8, t, a, rest @ ..] => Ok(Some((Record::Call(CallRecord::Negate(*t, *a)), rest))),
+        [9, a, rest @ ..] => Ok(Some((Record::Call(CallRecord::Show(*a)), rest))),
+        [kind @ 1..=9, ..] => Err(Unreadable::Short(*kind)),
+        [kind, ..] => Err(Unreadable::Unknown(*kind)),
     }
 }
 
-// The number in two bytes.
-fn code(low: u8, high: u8) -> u16
+// The records of a sheet, one after another. Where the sheet has no whole record more but bytes, the last item says why.
+#[derive(Clone, Copy)]
+pub(crate) struct Records<'s> {
+    pub(crate) rest: &'s [u8],
+}
+
+impl<'s> Iterator for Records<'s> {
+    type Item = Result<Record<'s>, Unreadable>;
+
+    ghost next_gives = { NextRecord };
+
+    ghost remaining = { λ s. at_most (length s.rest.now) };
+
+    fn next(&mut self) -> Option<Result<Record<'s>, Unreadable>> {
+        match read(self.rest) {
+            Ok(None) => None,
+            Ok(Some((record, rest))) => {
+                self.rest = rest;
+                Some(Ok(record))
+            }
+            Err(why) => {
+                self.rest = &[];
+                Some(Err(why))
+            }
+        }
+    }
+}
+
+// A code from its two bytes.
+fn code(low: u8, high: u8) -> u32
     ensures { result ≡ low + high * 256 }
 {
-    u16::from_le_bytes([low, high])
+    u32::from(u16::from_le_bytes([low, high]))
 }
 
 // The curve of ten bytes, f4 to f0.
@@ -122,11 +155,11 @@ pub fn curve(body: &[u8; 10]) -> Curve
     ensures { result ≡ curve_at body.now }
 {
     Curve {
-        f4: code(body[0], body[1]) as u32,
-        f3: code(body[2], body[3]) as u32,
-        f2: code(body[4], body[5]) as u32,
-        f1: code(body[6], body[7]) as u32,
-        f0: code(body[8], body[9]) as u32,
+        f4: code(body[0], body[1]),
+        f3: code(body[2], body[3]),
+        f2: code(body[4], body[5]),
+        f1: code(body[6], body[7]),
+        f0: code(body[8], body[9]),
     }
 }
 
@@ -137,12 +170,12 @@ pub fn divisor(body: &[u8; 10]) -> Divisor
     Divisor {
         degree: body[0],
         u: Linear {
-            x1: code(body[1], body[2]) as u32,
-            x0: code(body[3], body[4]) as u32,
+            x1: code(body[1], body[2]),
+            x0: code(body[3], body[4]),
         },
         v: Linear {
-            x1: code(body[5], body[6]) as u32,
-            x0: code(body[7], body[8]) as u32,
+            x1: code(body[5], body[6]),
+            x0: code(body[7], body[8]),
         },
         n: body[9],
     }
@@ -152,28 +185,11 @@ pub fn divisor(body: &[u8; 10]) -> Divisor
 pub fn divisor_bytes(d: Divisor) -> [u8; 10]
     ensures { result ≡ divisor_bytes d }
 {
+    let [u1_low, u1_high, ..] = d.u.x1.to_le_bytes();
+    let [u0_low, u0_high, ..] = d.u.x0.to_le_bytes();
+    let [v1_low, v1_high, ..] = d.v.x1.to_le_bytes();
+    let [v0_low, v0_high, ..] = d.v.x0.to_le_bytes();
     [
-        d.degree,
-        low(d.u.x1),
-        high(d.u.x1),
-        low(d.u.x0),
-        high(d.u.x0),
-        low(d.v.x1),
-        high(d.v.x1),
-        low(d.v.x0),
-        high(d.v.x0),
-        d.n,
+        d.degree, u1_low, u1_high, u0_low, u0_high, v1_low, v1_high, v0_low, v0_high, d.n,
     ]
-}
-
-fn low(a: u32) -> u8
-    ensures { result ≡ a % 256 }
-{
-    (a % 256) as u8
-}
-
-fn high(a: u32) -> u8
-    ensures { result ≡ a / 256 % 256 }
-{
-    (a / 256 % 256) as u8
 }

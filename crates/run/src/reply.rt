@@ -4,14 +4,16 @@ ghost use Rattle.run.specs.Buffers.{overwritten};
 ghost use Rattle.run.specs.Progress.{reply_bytes};
 
 use crate::record::divisor_bytes;
+use crate::refusal::Refusal;
 use methods::Divisor;
 
-// Nothing; or a register and its divisor; or a record's kind, and the number on which it is refused.
+// Nothing; or a register and its divisor; or a record's kind, and why it is refused. The kind is a byte and no Record, since it
+// may be one that no record has.
 #[derive(Clone, Copy)]
 pub enum Reply {
     Silent,
     Shown(u8, Divisor),
-    Refused(u8, u8),
+    Refused(u8, Refusal),
 }
 
 impl Reply {
@@ -27,7 +29,7 @@ impl Reply {
                 let n = put(output, n, &[16, register]);
                 put(output, n, &divisor_bytes(d))
             }
-            Reply::Refused(kind, number) => put(output, n, &[17, kind, number]),
+            Reply::Refused(kind, why) => put(output, n, &[17, kind, why.number()]),
         }
     }
 }

@@ -1,12 +1,14 @@
 // The run of a sheet.
-ghost use Rattle.std.specs.Prelude.{◌≡◌, ◌*◌, ◌≤◌, length};
+ghost use Rattle.std.specs.Prelude.{◌≡◌, ◌*◌, ◌≤◌, IfOk, length};
 ghost use Rattle.methods.specs.Methods.{LawfulMethod};
-ghost use Rattle.run.specs.Run.{run_bytes, run_answer, run_output, program_bytes};
+ghost use Rattle.run.specs.Run.{run_bytes, run_answer, run_result, run_output, program_bytes};
+ghost use Rattle.run.specs.Refusals.{host_answer};
 ghost use Rattle.run.specs.Buffers.{overwritten};
 ghost use Rattle.run.specs.Laws.{Laws};
 
 use crate::field::Chosen;
-use crate::record::{Front, read};
+use crate::record::{Records, Unreadable};
+use crate::refusal::{Refusal, SheetRefusal};
 use crate::reply::Reply;
 use crate::stage::Stage;
 use crate::table::{Ground, Table};
@@ -20,8 +22,10 @@ pub fn zafindoro_run(sheet: &[u8], output: &mut [u8]) -> u32
     ensures output { output.new ≡ run_output sheet.now output.old }
     ensures laws { Laws sheet.now }
 {
-    let mut entries = [0u16; 8191];
-    run_by::<Closed<ByPolynomials>>(&mut entries, sheet, output)
+    match run_closed(sheet, output) {
+        Ok(n) => n as u32,
+        Err(why) => why.host_answer(),
+    }
 }
 
 // What the program writes for a sheet: the bytes of the run, or those for a sheet that is too long. Answers their number.
@@ -30,28 +34,41 @@ pub fn answer(sheet: &[u8], output: &mut [u8; 24576]) -> usize
     ensures bytes { output.new ≡ overwritten output.old 0 (program_bytes sheet.now) }
     ensures room { result ≤ 24576 }
 {
-    if sheet.len() > 4096 {
-        return Reply::Refused(0, 13).write(output, 0);
+    match run_closed(sheet, output) {
+        Ok(n) => n,
+        Err(why) => Reply::Refused(0, why.into()).write(output, 0),
     }
-    zafindoro_run(sheet, output) as usize
 }
 
-// The run with any method. If the method is lawful, it makes no difference which one it is.
+// The run with closed formulas over the polynomial method.
+fn run_closed(sheet: &[u8], output: &mut [u8]) -> Result<usize, SheetRefusal>
+    ensures answer { result ≡ run_result sheet.now output.old }
+    ensures output { output.new ≡ run_output sheet.now output.old }
+    ensures room { IfOk result (λ n. n ≤ 24576) }
+{
+    let mut entries = [0u16; 8191];
+    run_by::<Closed<ByPolynomials>>(&mut entries, sheet, output)
+}
+
+// The run with any method: the number of bytes written, or why nothing is. If the method is lawful, it makes no difference which
+// one it is.
 pub fn run_by<'t, M: Method<Chosen<Residues<'t>>> + Drop>(
     entries: &'t mut [u16; 8191],
     sheet: &[u8],
     output: &mut [u8],
-) -> u32
-    ensures answer { LawfulMethod M.Method.answers → result ≡ run_answer sheet.now output.old }
+) -> Result<usize, SheetRefusal>
+    ensures answer { LawfulMethod M.Method.answers → host_answer result ≡ run_answer sheet.now output.old }
+    ensures outcome { LawfulMethod M.Method.answers → result ≡ run_result sheet.now output.old }
     ensures output { LawfulMethod M.Method.answers → output.new ≡ run_output sheet.now output.old }
+    ensures room { IfOk result (λ n. n ≤ 24576) }
 {
     if output.len() != 24576 {
-        return 65536 + 3;
+        return Err(SheetRefusal::OutputLength);
     }
     if sheet.len() > 4096 {
-        return 65536 + 13;
+        return Err(SheetRefusal::SheetLength);
     }
-    obey_all::<Table, Residues, M>(Table { entries }, sheet, output) as u32
+    Ok(obey_all::<Table, Residues, M>(Table { entries }, sheet, output))
 }
 
 // Obeys the records of a sheet one after another, and writes what they answer from the start of the output on; answers the number
@@ -67,20 +84,15 @@ fn obey_all<T: Ground<R> + Drop, R: Field + Drop, M: Method<Chosen<R>> + Drop>(
     ensures bytes { LawfulMethod M.Method.answers → output.new ≡ overwritten output.old 0 (run_bytes sheet.now) }
 {
     let mut stage: Stage<T, R, M> = Stage::Start(ground);
-    let mut rest = sheet;
     let mut n = 0;
-    let last = 'records: loop {
-        match read(rest) {
-            Front::End => break Reply::Silent,
-            Front::Short(kind) => break Reply::Refused(kind, 10),
-            Front::Unknown(kind) => break Reply::Refused(kind, 11),
-            Front::Whole(record, after) => {
-                let (next, reply) = stage.obey(record);
-                stage = next;
-                rest = after;
-                n = reply.write(output, n);
-            }
-        }
-    };
-    last.write(output, n)
+    for record in (Records { rest: sheet }) {
+        let (next, reply) = match record {
+            Ok(record) => stage.obey(record),
+            Err(Unreadable::Short(kind)) => (stage, Reply::Refused(kind, Refusal::Short)),
+            Err(Unreadable::Unknown(kind)) => (stage, Reply::Refused(kind, Refusal::Unknown)),
+        };
+        stage = next;
+        n = reply.write(output, n);
+    }
+    n
 }

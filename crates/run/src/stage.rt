@@ -1,7 +1,6 @@
 // How far a run has come, and what an arriving record does.
 ghost use Rattle.std.specs.Prelude.{◌≡◌, ◌*◌, ◌≤◌, length};
 ghost use Rattle.fields.specs.Lawful.{Lawful};
-ghost use Rattle.methods.specs.Drafts.{drafted};
 ghost use Rattle.methods.specs.Methods.{LawfulMethod};
 ghost use Rattle.run.specs.Records.{modulus, nine_elements, square_root, coefficients, call as call_of, least_size, least_size_of_call};
 ghost use Rattle.run.specs.Meanings.{said_by};
@@ -10,11 +9,12 @@ ghost use Rattle.run.specs.Stages.{base_meaning, chosen_meaning, progress_with, 
 
 use crate::field::{Base, Chosen, OneOf};
 use crate::record::{Record, curve, kind_of};
+use crate::refusal::Refusal;
 use crate::reply::Reply;
 use crate::table::Ground;
 use calculator::{Answer, Calculator, Call};
 use fields::{Field, Nine, Pairs};
-use methods::{Coefficient, Curve, Draft, Method, Model};
+use methods::{Curve, Draft, Method, Model};
 
 // What the accepted records have brought: nothing yet but the ground for residues; a base field; pairs over one; or a calculator.
 #[derive(Drop)]
@@ -35,30 +35,20 @@ impl<T: Ground<R> + Drop, R: Field + Drop, M: Method<Chosen<R>> + Drop> Stage<T,
         match (self, arriving) {
             (Stage::Start(ground), Record::Residues(m)) => Stage::on_residues(ground, m),
             (Stage::Start(_), Record::Nine) => Stage::on_nine(),
-            (Stage::Start(t), Record::Pairs(_)) => Stage::Start(t).out_of_turn(arriving),
-            (Stage::Start(t), Record::Curve(_)) => Stage::Start(t).out_of_turn(arriving),
-            (Stage::Start(t), Record::Call(_)) => Stage::Start(t).out_of_turn(arriving),
+            (stage @ Stage::Start(_), _) => stage.out_of_turn(arriving),
             (Stage::Based(base), Record::Pairs(r)) => Stage::on_pairs(base, r),
             (Stage::Based(base), Record::Curve(f)) => Stage::on_curve(OneOf::First(base), curve(f)),
-            (Stage::Based(b), Record::Residues(_)) => Stage::Based(b).out_of_turn(arriving),
-            (Stage::Based(b), Record::Nine) => Stage::Based(b).out_of_turn(arriving),
-            (Stage::Based(b), Record::Call(_)) => Stage::Based(b).out_of_turn(arriving),
+            (stage @ Stage::Based(_), _) => stage.out_of_turn(arriving),
             (Stage::Paired(pairs), Record::Curve(f)) => Stage::on_curve(
                 OneOf::Second(pairs),
                 curve(f),
             ),
-            (Stage::Paired(p), Record::Residues(_)) => Stage::Paired(p).out_of_turn(arriving),
-            (Stage::Paired(p), Record::Nine) => Stage::Paired(p).out_of_turn(arriving),
-            (Stage::Paired(p), Record::Pairs(_)) => Stage::Paired(p).out_of_turn(arriving),
-            (Stage::Paired(p), Record::Call(_)) => Stage::Paired(p).out_of_turn(arriving),
+            (stage @ Stage::Paired(_), _) => stage.out_of_turn(arriving),
             (Stage::Ready(calculator), Record::Call(call)) => Stage::on_call(
                 calculator,
-                call.call(),
+                call.into(),
             ),
-            (Stage::Ready(c), Record::Residues(_)) => Stage::Ready(c).out_of_turn(arriving),
-            (Stage::Ready(c), Record::Nine) => Stage::Ready(c).out_of_turn(arriving),
-            (Stage::Ready(c), Record::Pairs(_)) => Stage::Ready(c).out_of_turn(arriving),
-            (Stage::Ready(c), Record::Curve(_)) => Stage::Ready(c).out_of_turn(arriving),
+            (stage @ Stage::Ready(_), _) => stage.out_of_turn(arriving),
         }
     }
 
@@ -67,7 +57,7 @@ impl<T: Ground<R> + Drop, R: Field + Drop, M: Method<Chosen<R>> + Drop> Stage<T,
         ensures obeyed { step (progress_at R.Field self) (said_by arriving.entry) ≡ out_of_turn (progress_at R.Field self) (said_by arriving.entry) → Obeyed (progress_at R.Field self) (said_by arriving.entry) (progress_at R.Field result.0) result.1 }
         ensures fits { length (reply_bytes result.1) ≤ 6 * least_size (said_by arriving.entry) }
     {
-        (self, Reply::Refused(arriving.kind(), 12))
+        (self, Reply::Refused(arriving.kind(), Refusal::OutOfTurn))
     }
 
     // The nine elements.
@@ -86,7 +76,7 @@ impl<T: Ground<R> + Drop, R: Field + Drop, M: Method<Chosen<R>> + Drop> Stage<T,
     {
         match ground.residues(m) {
             Ok(field) => (Stage::Based(OneOf::First(field)), Reply::Silent),
-            Err((ground, why)) => (Stage::Start(ground), Reply::Refused(1, why.number())),
+            Err((ground, why)) => (Stage::Start(ground), Reply::Refused(1, why.into())),
         }
     }
 
@@ -95,9 +85,9 @@ impl<T: Ground<R> + Drop, R: Field + Drop, M: Method<Chosen<R>> + Drop> Stage<T,
         ensures obeyed { Obeyed (based (base_meaning R.Field base)) (square_root r) (progress_at R.Field result.0) result.1 }
         ensures fits { length (reply_bytes result.1) ≤ 3 }
     {
-        match Pairs::over(base, r as u32) {
+        match Pairs::over(base, u32::from(r)) {
             Ok(pairs) => (Stage::Paired(pairs), Reply::Silent),
-            Err((base, why)) => (Stage::Based(base), Reply::Refused(3, why.number())),
+            Err((base, why)) => (Stage::Based(base), Reply::Refused(3, why.into())),
         }
     }
 
@@ -106,9 +96,9 @@ impl<T: Ground<R> + Drop, R: Field + Drop, M: Method<Chosen<R>> + Drop> Stage<T,
         ensures obeyed { Lawful (chosen_meaning R.Field field) → Obeyed (progress_with R.Field field) (coefficients curve) (progress_at R.Field result.0) result.1 }
         ensures fits { length (reply_bytes result.1) ≤ 3 }
     {
-        match Model::check(field, draft(curve)) {
+        match Model::check(field, Draft::from(curve)) {
             Ok(model) => (Stage::Ready(Calculator::new(model)), Reply::Silent),
-            Err((field, _, why)) => (Stage::with(field), Reply::Refused(4, why.number())),
+            Err((field, _, why)) => (Stage::with(field), Reply::Refused(4, why.into())),
         }
     }
 
@@ -133,27 +123,14 @@ impl<T: Ground<R> + Drop, R: Field + Drop, M: Method<Chosen<R>> + Drop> Stage<T,
     }
 }
 
-// The draft of a curve.
-fn draft(curve: Curve) -> Draft
-    ensures { drafted result ≡ curve }
-{
-    let mut draft = Draft::new();
-    draft.change(Coefficient::F4, curve.f4);
-    draft.change(Coefficient::F3, curve.f3);
-    draft.change(Coefficient::F2, curve.f2);
-    draft.change(Coefficient::F1, curve.f1);
-    draft.change(Coefficient::F0, curve.f0);
-    draft
-}
-
 // What is written for a call that was answered.
 fn replied(call: Call, answer: Answer) -> Reply
     ensures same { result ≡ replied_as call answer }
     ensures fits { length (reply_bytes result) ≤ 6 * least_size_of_call call }
 {
     match (call, answer) {
-        (call, Answer::Refused(why)) => Reply::Refused(kind_of(call), why.number()),
-        (Call::Show(register), Answer::Shown(divisor)) => Reply::Shown(register, divisor),
+        (call, Err(why)) => Reply::Refused(kind_of(call), why.into()),
+        (Call::Show(register), Ok(Some(divisor))) => Reply::Shown(register, divisor),
         _ => Reply::Silent,
     }
 }

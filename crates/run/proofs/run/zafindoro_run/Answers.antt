@@ -1,18 +1,23 @@
-use Rattle.std.proofs.Common.{refl}
-use Rattle.methods.specs.Methods.{LawfulMethod, the_law}
-use Rattle.closed_formulas.specs.Formulas.{closed}
-use Rattle.closed_formulas.proofs.Lawful.{closed_lawful}
+use Rattle.std.proofs.Common.{ap, ◌∙◌}
+use Rattle.run.specs.Refusals.{host_answer}
 use Rattle.run.proofs.Laws.{run_laws}
+use Rattle.run.proofs.Sizes.{host_answer-run_result}
 use Rattle.run.proofs.run.zafindoro_run.Goals as goal
 
-rules_lawful : LawfulMethod the_law
-rules_lawful = record { adds = λ K C lawful accepted D E. refl; doubles = λ K C lawful accepted D. refl }
-
-pub returns : goal.returns
-returns c =
-    let lawful : LawfulMethod (closed the_law) = closed_lawful the_law rules_lawful in
+pub returns-in-Ok : goal.returns-in-Ok
+returns-in-Ok c =
     record {
-      answer = c.run_by.ensures.answer lawful;
-      output = c.run_by.ensures.output lawful;
+      answer = ap host_answer c.in-Ok.ensures.answer ∙ host_answer-run_result c.args.sheet.now c.args.output.now;
+      output = c.in-Ok.ensures.output;
+      laws = run_laws c.args.sheet.now;
+    }
+
+pub returns-in-Err : goal.returns-in-Err
+returns-in-Err c =
+    record {
+      answer =
+          c.host_answer.ensures
+          ∙ (ap host_answer c.in-Err.ensures.answer ∙ host_answer-run_result c.args.sheet.now c.args.output.now);
+      output = c.in-Err.ensures.output;
       laws = run_laws c.args.sheet.now;
     }

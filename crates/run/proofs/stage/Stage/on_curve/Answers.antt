@@ -10,8 +10,8 @@ returns-in-Ok g c =
     let k = c.new.ensures in
     record {
       obeyed = λ lawful.
-          curve_accepted g.R.Field c.args.field c.args.curve _ _ c.draft.ensures (h.answer lawful)
-          (rw (k.model, h.holds.0, h.holds.1, c.draft.ensures)
+          curve_accepted g.R.Field c.args.field c.args.curve _ _ c.from.ensures (h.answer lawful)
+          (rw (k.model, h.holds.0, h.holds.1, c.from.ensures)
           (ap (ready (chosen_meaning g.R.Field c.args.field) c.args.curve) k.fresh));
       fits = omega arith;
     }
@@ -21,7 +21,7 @@ returns-in-Err g c =
     let h = c.in-Err.ensures in
     record {
       obeyed = λ lawful.
-          curve_refused g.R.Field c.args.field c.args.curve _ _ _ c.in-Err.why c.draft.ensures (h.answer lawful)
-          (c.with.ensures ∙ ap (progress_with g.R.Field) h.holds.0) c.number.ensures;
+          curve_refused g.R.Field c.args.field c.args.curve _ _ _ c.in-Err.why c.from.ensures (h.answer lawful)
+          (c.with.ensures ∙ ap (progress_with g.R.Field) h.holds.0) c.into.ensures;
       fits = omega arith;
     }

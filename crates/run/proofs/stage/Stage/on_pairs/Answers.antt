@@ -1,6 +1,6 @@
-use Rattle.std.proofs.Common.{◌≡◌, ap, arith}
+use Rattle.std.proofs.Common.{◌≡◌, sym, ap, ◌∙◌, arith}
 use Rattle.fields.specs.Arithmetic.{Arithmetic}
-use Rattle.fields.specs.Pairs.{pairs}
+use Rattle.fields.specs.Pairs.{pairs, pairs_answer}
 use Rattle.run.specs.Progress.{based, paired}
 use Rattle.run.specs.Stages.{base_meaning, pairs_meaning}
 use Rattle.run.proofs.Steps.{choice-accepted, choice-refused, step-pairs}
@@ -11,9 +11,9 @@ returns-in-Ok g c =
     let K : Arithmetic = base_meaning g.R.Field c.args.base in
     let h = c.in-Ok.ensures in
     let same : pairs_meaning g.R.Field c.in-Ok.pairs ≡ pairs K K.size c.args.r =
-    rw (h.holds.0, h.holds.1, h.holds.2) in
+    rw (h.holds.0, h.holds.1, h.holds.2, c.from.ensures) in
     record {
-      obeyed = choice-accepted _ _ _ _ _ _ (step-pairs K c.args.r) _ h.answer (ap paired same);
+      obeyed = choice-accepted _ _ _ _ _ _ (step-pairs K c.args.r) _ (sym (ap (pairs_answer K) c.from.ensures) ∙ h.answer) (ap paired same);
       fits = omega arith;
     }
 
@@ -23,7 +23,7 @@ returns-in-Err g c =
     let h = c.in-Err.ensures in
     record {
       obeyed =
-          choice-refused _ _ _ _ _ _ (step-pairs K c.args.r) _ _ c.in-Err.why h.answer
-          (ap (λ b. based (base_meaning g.R.Field b)) h.holds) c.number.ensures;
+          choice-refused _ _ _ _ _ _ (step-pairs K c.args.r) _ _ c.in-Err.why (sym (ap (pairs_answer K) c.from.ensures) ∙ h.answer)
+          (ap (λ b. based (base_meaning g.R.Field b)) h.holds) c.into.ensures;
       fits = omega arith;
     }

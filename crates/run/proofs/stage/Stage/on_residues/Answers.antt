@@ -15,6 +15,6 @@ pub returns-in-Err : goal.returns-in-Err
 returns-in-Err g c =
     record {
       obeyed =
-          choice-refused _ _ _ _ _ _ (step-residues c.args.m) _ _ c.in-Err.why c.in-Err.ensures refl c.number.ensures;
+          choice-refused _ _ _ _ _ _ (step-residues c.args.m) _ _ c.in-Err.why c.in-Err.ensures refl c.into.ensures;
       fits = omega arith;
     }

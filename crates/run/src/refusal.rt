@@ -1,0 +1,104 @@
+// Why a record, or a whole sheet, is refused.
+ghost use Rattle.std.specs.Prelude.{◌≡◌, Err};
+ghost use Rattle.run.specs.declared.refusal.Refusal.TheVariants.{Field, Curve, Call, Sheet};
+ghost use Rattle.run.specs.Refusals.{run_refusal_number, sheet_refusal_number, host_answer};
+
+use calculator::CallRefusal;
+use fields::FieldRefusal;
+use methods::CurveRefusal;
+
+// Why the sizes of a sheet and its output are refused.
+#[derive(Clone, Copy, Debug, PartialEq, Eq, Hash)]
+pub enum SheetRefusal {
+    // 3: the output is not of 24,576 bytes
+    OutputLength,
+    // 13: the sheet is of over 4,096 bytes
+    SheetLength,
+}
+
+impl SheetRefusal {
+    // The number of the condition.
+    pub fn number(self) -> u8
+        ensures { result ≡ sheet_refusal_number self }
+    {
+        match self {
+            SheetRefusal::OutputLength => 3,
+            SheetRefusal::SheetLength => 13,
+        }
+    }
+
+    // What the call of a host program answers, above the length of every output.
+    pub fn host_answer(self) -> u32
+        ensures { result ≡ host_answer (Err self) }
+    {
+        65536 + u32::from(self.number())
+    }
+}
+
+// Why a record is refused, and for the program a sheet.
+#[derive(Clone, Copy)]
+pub enum Refusal {
+    // 2, 5, 6 or 7
+    Field(FieldRefusal),
+    // 5 or 8
+    Curve(CurveRefusal),
+    // 1, 4, 5 or 9
+    Call(CallRefusal),
+    // 3 or 13
+    Sheet(SheetRefusal),
+    // 10: the sheet ends inside the record
+    Short,
+    // 11: no record has this kind
+    Unknown,
+    // 12: the record is out of turn
+    OutOfTurn,
+}
+
+impl Refusal {
+    // The number of the condition.
+    pub fn number(self) -> u8
+        ensures { result ≡ run_refusal_number self }
+    {
+        match self {
+            Refusal::Field(why) => why.number(),
+            Refusal::Curve(why) => why.number(),
+            Refusal::Call(why) => why.number(),
+            Refusal::Sheet(why) => why.number(),
+            Refusal::Short => 10,
+            Refusal::Unknown => 11,
+            Refusal::OutOfTurn => 12,
+        }
+    }
+}
+
+impl From<FieldRefusal> for Refusal {
+    ghost from_gives = { λ why refusal. refusal ≡ Field why };
+
+    fn from(why: FieldRefusal) -> Refusal {
+        Refusal::Field(why)
+    }
+}
+
+impl From<CurveRefusal> for Refusal {
+    ghost from_gives = { λ why refusal. refusal ≡ Curve why };
+
+    fn from(why: CurveRefusal) -> Refusal {
+        Refusal::Curve(why)
+    }
+}
+
+impl From<CallRefusal> for Refusal {
+    ghost from_gives = { λ why refusal. refusal ≡ Call why };
+
+    fn from(why: CallRefusal) -> Refusal {
+        Refusal::Call(why)
+    }
+}
+
+impl From<SheetRefusal> for Refusal {
+    ghost from_gives = { λ why refusal. refusal ≡ Sheet why };
+
+    fn from(why: SheetRefusal) -> Refusal {
+        Refusal::Sheet(why)
+    }
+}
