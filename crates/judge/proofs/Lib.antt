@@ -1,1 +1,1 @@
-pub mod Towers
+pub mod Units

@@ -12,15 +12,19 @@ use Rattle.judge.specs.declared.request.Base.{Base}
 use Rattle.judge.specs.declared.request.Base.TheVariants.{Residues, Nine}
 use Rattle.judge.specs.declared.request.Tower.{Tower}
 use Rattle.judge.specs.declared.request.Tower.TheVariants.{Plain, Once, Twice}
-use Rattle.judge.specs.declared.verdict.Verdict.{Verdict}
-use Rattle.judge.specs.declared.verdict.Verdict.TheVariants.{Made, NoBase, NoPairs}
+use Rattle.judge.specs.declared.verdict.NoField.{NoField}
+use Rattle.judge.specs.declared.verdict.NoField.TheVariants.{NoBase, NoPairs}
 
--- a field, or the verdict that there is none
+-- a field, or why there is none
 abbrev pub Asked : Type 0
-Asked = Result Arithmetic Verdict
+Asked = Result Arithmetic NoField
 
--- the field where its making answers that it is made, and else the verdict on the refusal
-abbrev pub accepted : Result (Unit {0}) FieldRefusal → Arithmetic → (FieldRefusal → Verdict) → Asked
+-- a report on a field, or why there is none
+abbrev pub Verdict : Type 0
+Verdict = Result Report NoField
+
+-- the field where its making answers that it is made, and else why there is none
+abbrev pub accepted : Result (Unit {0}) FieldRefusal → Arithmetic → (FieldRefusal → NoField) → Asked
 accepted (Ok _) K no_field = Ok K
 accepted (Err e) K no_field = Err (no_field e)
 
@@ -36,7 +40,7 @@ pairs_asked K r = accepted (pairs_answer K r) (pairs K K.size r) (NoPairs r)
 -- a field over the one that is asked for, if there is that one
 abbrev pub over : Asked → (Arithmetic → Asked) → Asked
 over (Ok K) field = field K
-over (Err v) field = Err v
+over (Err w) field = Err w
 
 -- what is built on K
 abbrev pub tower_asked : Arithmetic → Tower → Asked
@@ -46,5 +50,5 @@ tower_asked K (Twice r s) = over (pairs_asked K r) (λ L. pairs_asked L s)
 
 -- The field is lawful, and the verdict reports on it; or the verdict is that there is none.
 abbrev pub Judges : Asked → Verdict → Type 0
-Judges (Ok K) v = Lawful K × ((x : Report) × (v ≡ Made x) × Reported K x)
-Judges (Err w) v = v ≡ w
+Judges (Ok K) v = Lawful K × ((x : Report) × (v ≡ Ok x) × Reported K x)
+Judges (Err w) v = v ≡ Err w

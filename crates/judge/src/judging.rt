@@ -1,12 +1,13 @@
 // Makes the field that is asked for, and judges it.
 ghost use Rattle.std.specs.Prelude.{◌≡◌, length, IfOk, Ok, Err, MatchResult};
 ghost use Rattle.fields.specs.Lawful.{Lawful};
+ghost use Rattle.fields.specs.Pairs.{pairs as pairs_over};
 ghost use Rattle.fields.specs.Residues.{residues as residues_modulo, residues_by, fill_answer};
 ghost use Rattle.judge.specs.Verdict.{base_asked, over, pairs_asked, tower_asked, Judges};
 
 use crate::report::examine;
 use crate::request::{Base, Request, Tower};
-use crate::verdict::Verdict;
+use crate::verdict::{NoField, Verdict};
 use fields::{Field, FieldRefusal, Nine, Pairs, Residues};
 use std::alloc::{AllocError, Global};
 
@@ -18,10 +19,8 @@ pub fn judge(heap: Global, request: Request) -> Result<Verdict, AllocError>
         Base::Nine => Ok(judge_tower(Nine::new(), request.tower)),
         Base::Residues(m) => {
             let mut table = vec![in heap; 0; m as usize]?;
-            match residues(m, table.as_mut_slice()) {
-                Ok(field) => Ok(judge_tower(field, request.tower)),
-                Err(refusal) => Ok(Verdict::NoBase(refusal)),
-            }
+            let field = residues(m, table.as_mut_slice()).map_err(NoField::NoBase);
+            Ok(field.and_then(|field| judge_tower(field, request.tower)))
         }
     }
 }
@@ -35,28 +34,23 @@ fn residues<'t>(m: u16, table: &'t mut [u16]) -> Result<Residues<'t>, FieldRefus
     Ok(Residues::on(m, table))
 }
 
-// The verdict on the pairs that are asked for over a lawful field, or on that field itself.
+// The verdict on what is built on a lawful field.
 fn judge_tower<F: Field + Drop>(base: F, tower: Tower) -> Verdict
     requires { Lawful (F.Field.meaning base) }
     ensures { Judges (tower_asked (F.Field.meaning base) tower) result }
 {
     match tower {
-        Tower::Plain => Verdict::Made(examine(&base)),
-        Tower::Once(r) => judge_pairs(base, r),
-        Tower::Twice(r, s) => match Pairs::over(base, r) {
-            Ok(pairs) => judge_pairs(pairs, s),
-            Err((_, refusal)) => Verdict::NoPairs(r, refusal),
-        },
+        Tower::Plain => Ok(examine(&base)),
+        Tower::Once(r) => Ok(examine(&pairs(base, r)?)),
+        Tower::Twice(r, s) => Ok(examine(&pairs(pairs(base, r)?, s)?)),
     }
 }
 
-// The verdict on the pairs with t² = r over a lawful field.
-fn judge_pairs<F: Field + Drop>(below: F, r: u32) -> Verdict
+// The pairs with t² = r over a lawful field: a lawful field.
+fn pairs<F: Field + Drop>(below: F, r: u32) -> Result<Pairs<F>, NoField>
     requires { Lawful (F.Field.meaning below) }
-    ensures { Judges (pairs_asked (F.Field.meaning below) r) result }
+    ensures asked { MatchResult result (λ p. pairs_asked (F.Field.meaning below) r ≡ Ok (pairs_over (F.Field.meaning p.below) p.q p.r)) (λ e. pairs_asked (F.Field.meaning below) r ≡ Err e) }
+    ensures lawful { IfOk result (λ p. Lawful (pairs_over (F.Field.meaning p.below) p.q p.r)) }
 {
-    match Pairs::over(below, r) {
-        Ok(pairs) => Verdict::Made(examine(&pairs)),
-        Err((_, refusal)) => Verdict::NoPairs(r, refusal),
-    }
+    Pairs::over(below, r).map_err(|(_, refusal)| NoField::NoPairs(r, refusal))
 }

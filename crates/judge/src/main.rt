@@ -3,9 +3,9 @@
 #![tactic(auto)]
 
 use judging::judge;
-use request::parse;
+use request::Request;
 use std::io;
-use std::io::{BufRead, BufReader};
+use std::io::Input;
 
 mod judging;
 mod report;
@@ -13,7 +13,7 @@ mod request;
 mod verdict;
 
 fn main(rt: HostRuntime) -> io::Result<()> {
-    for line in BufReader::new(rt.alloc(), rt.stdin())?.lines(rt.alloc()) {
+    for line in rt.lines(rt.alloc()) {
         match line {
             Ok(text) => answer(&rt, text.as_str().trim())?,
             Err(e) if e.kind() == io::ErrorKind::InvalidData => println!(rt; "bad line: no text")?,
@@ -28,11 +28,11 @@ fn answer(rt: &HostRuntime, line: &str) -> io::Result<()> {
     if line.is_empty() || line.starts_with('#') {
         return Ok(());
     }
-    match parse(line) {
-        Ok(request) => {
-            let verdict = judge(rt.alloc(), request)?;
-            println!(rt; "{line}: {verdict}")
-        }
+    match line.parse::<Request>() {
+        Ok(request) => match judge(rt.alloc(), request)? {
+            Ok(report) => println!(rt; "{line}: {report}"),
+            Err(no_field) => println!(rt; "{line}: {no_field}"),
+        },
         Err(fault) => println!(rt; "{line}: bad line: {fault}"),
     }
 }

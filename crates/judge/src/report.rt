@@ -8,7 +8,7 @@ use std::fmt;
 
 // The number of elements, how many of them are units, the codes of −1 and of 1/2, and the product of the two codes in the
 // middle, (q − 1)/2 and (q + 1)/2.
-#[derive(Clone, Copy)]
+#[derive(Clone, Copy, Debug, PartialEq, Eq, Hash)]
 pub struct Report {
     pub elements: u32,
     pub units: u32,
@@ -55,11 +55,7 @@ fn units<F: Field>(field: &F) -> u32
     requires { Lawful (F.Field.meaning field.now) }
     ensures { result + 1 ≡ (F.Field.meaning field.now).size }
 {
-    let mut n = 0;
-    for a in 1..field.size() {
-        if field.product(a, field.inverse(a)) == 1 {
-            n += 1;
-        }
-    }
-    n
+    (1..field.size())
+        .filter(|&a| field.product(a, field.inverse(a)) == 1)
+        .count() as u32
 }
