@@ -2,7 +2,8 @@
 use std::io;
 use std::io::{BufRead, BufReader};
 
-// Calls f with each line of standard input but for blank lines and lines that begin with #.
+// Calls f with each line of standard input but for blank lines and lines that begin with #. The reader has a buffer, since
+// `rt.lines` reads a pipe a byte at a time.
 pub fn each_line<F: FnMut(&str) -> io::Result<()>>(rt: &HostRuntime, mut f: F) -> io::Result<()>
     requires { F.IsAlwaysCallable f }
 {
@@ -23,14 +24,17 @@ pub fn each_trimmed_line<F: FnMut(&str) -> io::Result<()>>(
 ) -> io::Result<()>
     requires { (state : F) (text : _) → F.pre state text }
 {
-    each_line(rt, |line: &str| -> io::Result<()>
-        requires { (text : _) → F.pre f text }
-    {
-        let text = line.trim();
-        if text.starts_with('#') {
-            Ok(())
-        } else {
-            f(text)
-        }
-    })
+    each_line(
+        rt,
+        |line: &str| -> io::Result<()>
+            requires { (text : _) → F.pre f text }
+        {
+            let text = line.trim();
+            if text.starts_with('#') {
+                Ok(())
+            } else {
+                f(text)
+            }
+        },
+    )
 }

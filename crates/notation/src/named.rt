@@ -1,5 +1,6 @@
 // Fields by their names, and what is done over the field that a name stands for.
 use fields::{Field, FieldRefusal, Nine, Pairs, Residues};
+use std::error::Error;
 use std::num::ParseIntError;
 use std::str::FromStr;
 use std::{fmt, io};
@@ -33,6 +34,8 @@ impl fmt::Display for NotAField {
     }
 }
 
+impl Error for NotAField {}
+
 impl From<ParseIntError> for NotAField {
     fn from(_: ParseIntError) -> NotAField {
         NotAField
@@ -42,6 +45,10 @@ impl From<ParseIntError> for NotAField {
 // A field by its name: `residues M`, `nine` or `pairs M R`.
 impl FromStr for Named {
     type Err = NotAField;
+
+    ghost use Rattle.notation.specs.Names.{NamesItsKind};
+
+    ghost from_str_gives = { NamesItsKind };
 
     fn from_str(text: &str) -> Result<Named, NotAField> {
         let mut words = text.split_whitespace();

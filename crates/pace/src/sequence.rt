@@ -48,7 +48,7 @@ fn one_method<F: Field, M: Method<F>>(
     Ok(())
 }
 
-// 0 where no time passed.
+// 0 where no time passed, or more than 10⁶ seconds.
 fn per_second(sums: u32, took: Duration) -> u64 {
     let micros = took.as_micros();
     if micros == 0 || micros > 1_000_000_000_000 {
