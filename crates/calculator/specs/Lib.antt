@@ -1,3 +1,4 @@
 pub mod Calls
 pub mod Accounts
 pub mod Calculators
+pub mod Texts

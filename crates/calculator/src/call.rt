@@ -22,6 +22,10 @@ pub enum Call {
 
 // The name of the call, then its registers and its divisor.
 impl fmt::Display for Call {
+    ghost use Rattle.calculator.specs.Texts.{call_text};
+
+    ghost output = { call_text };
+
     fn fmt<W: fmt::Write>(&self, f: &mut fmt::Formatter<W>) -> fmt::Result {
         match self {
             Call::Enter(target, divisor) => write!(f, "enter {target} {divisor}"),
