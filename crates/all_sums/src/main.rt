@@ -3,32 +3,30 @@
 // fields of a few elements. Empty lines and lines that begin with # are passed over.
 #![tactic(auto)]
 
-use notation::{over, parse_field};
+use notation::{Named, each_trimmed_line, over};
 use std::io;
-use std::io::{BufRead, BufReader};
 use sums::AllSums;
 
 mod divisors;
 mod sums;
 
 fn main(rt: HostRuntime) -> io::Result<()> {
-    for line in BufReader::new(rt.alloc(), rt.stdin())?.lines(rt.alloc()) {
-        let line = line?;
-        let text = line.as_str().trim();
-        if !text.is_empty() && !text.starts_with('#') {
-            print!(rt; "{text}: ")?;
-            answer(&rt, text)?;
-        }
-    }
-    Ok(())
+    each_trimmed_line(&rt, |text| {
+        print!(rt; "{text}: ")?;
+        answer(&rt, text)
+    })
 }
 
 fn answer(rt: &HostRuntime, text: &str) -> io::Result<()> {
-    let Some((field, curve)) = text.split_once('|') else {
-        return println!(rt; "bad line");
-    };
-    match (parse_field(field), AllSums::parse(curve)) {
-        (Some(named), Some(sums)) => over(rt, named, sums),
-        _ => println!(rt; "bad line"),
+    match parse(text) {
+        Some((field, sums)) => over(rt, field, sums),
+        None => println!(rt; "bad line"),
     }
+}
+
+// A field and the sums of a curve.
+fn parse(text: &str) -> Option<(Named, AllSums)> {
+    let (field, curve) = text.split_once('|')?;
+    let curve = notation::curve(curve)?;
+    Some((field.parse().ok()?, AllSums { curve }))
 }

@@ -1,20 +1,17 @@
 // The accounts of the registers, as they are printed: each divisor with how often it stands in the account.
 use calculator::Call;
 use fields::Field;
+use indexmap::IndexMap;
 use methods::{Divisor, Model, entered, negative};
 use std::alloc::{AllocError, Global};
 
-// A divisor that stands so often in an account; counts above 2⁶⁴ − 1 are not told apart.
-#[derive(Clone, Copy)]
-pub struct Entry {
-    pub divisor: Divisor,
-    pub count: u64,
-}
+// How often each divisor stands in an account, in the order in which they came; counts above 2⁶⁴ − 1 are not told apart.
+pub type Account = IndexMap<Divisor, u64>;
 
 // The account of each register.
 #[derive(Drop)]
 pub struct Accounts {
-    pub of: Vec<Vec<Entry>>,
+    pub of: Vec<Account>,
 }
 
 impl Accounts {
@@ -22,7 +19,7 @@ impl Accounts {
     pub fn new(heap: Global) -> Result<Accounts, AllocError> {
         let mut of = Vec::new(heap);
         for _ in 0..16 {
-            of.push(Vec::new(heap))?;
+            of.push(IndexMap::new(heap))?;
         }
         Ok(Accounts { of })
     }
@@ -37,67 +34,47 @@ impl Accounts {
         if !accepted(model, call) {
             return Ok(());
         }
-        match call {
-            Call::Enter(target, divisor) => {
-                let mut account = Vec::new(heap);
-                account.push(Entry { divisor, count: 1 })?;
-                self.set(target, account);
-            }
-            Call::Add(target, a, b) => {
-                let mut account = Vec::new(heap);
-                self.join(a, &mut account)?;
-                self.join(b, &mut account)?;
-                self.set(target, account);
-            }
-            Call::Double(target, a) => {
-                let mut account = Vec::new(heap);
-                self.join(a, &mut account)?;
-                self.join(a, &mut account)?;
-                self.set(target, account);
-            }
-            Call::Negate(target, a) => {
-                let account = self.negated(heap, model.field(), a)?;
-                self.set(target, account);
-            }
-            Call::Show(_) => {}
-        }
-        Ok(())
-    }
-
-    // Puts an account in the place of a register's.
-    fn set(&mut self, register: u8, account: Vec<Entry>) {
-        if let Some(place) = self.of.get_mut(register as usize) {
+        let (target, account) = match call {
+            Call::Enter(target, divisor) => (target, IndexMap::from_array(heap, [(divisor, 1)])?),
+            Call::Add(target, a, b) => (target, self.joined(heap, a, b)?),
+            Call::Double(target, a) => (target, self.joined(heap, a, a)?),
+            Call::Negate(target, a) => (target, self.negated(heap, model.field(), a)?),
+            Call::Show(_) => return Ok(()),
+        };
+        if let Some(place) = self.of.get_mut(usize::from(target)) {
             *place = account;
         }
-    }
-
-    // Joins the account of a register to another.
-    fn join(&self, register: u8, account: &mut Vec<Entry>) -> Result<(), AllocError> {
-        if let Some(entries) = self.of.get(register as usize) {
-            for entry in entries.iter() {
-                count_in(account, *entry)?;
-            }
-        }
         Ok(())
     }
 
-    // The account of a register with each divisor replaced by its negative.
+    // The accounts of two registers together.
+    fn joined(&self, heap: Global, a: u8, b: u8) -> Result<Account, AllocError> {
+        let mut joined: Account = IndexMap::new(heap);
+        for register in [a, b] {
+            if let Some(account) = self.of.get(usize::from(register)) {
+                for (divisor, count) in account {
+                    let total = joined.entry(*divisor)?.or_insert(0);
+                    *total = total.saturating_add(*count);
+                }
+            }
+        }
+        Ok(joined)
+    }
+
+    // The account of a register with each divisor replaced by its negative. Divisors that differ have negatives that differ.
     fn negated<F: Field>(
         &self,
         heap: Global,
         field: &F,
         register: u8,
-    ) -> Result<Vec<Entry>, AllocError> {
-        let mut account = Vec::new(heap);
-        if let Some(entries) = self.of.get(register as usize) {
-            for entry in entries.iter() {
-                account.push(Entry {
-                    divisor: negative(field, entry.divisor),
-                    count: entry.count,
-                })?;
+    ) -> Result<Account, AllocError> {
+        let mut negated = IndexMap::new(heap);
+        if let Some(account) = self.of.get(usize::from(register)) {
+            for (divisor, count) in account {
+                negated.insert(negative(field, *divisor), *count)?;
             }
         }
-        Ok(account)
+        Ok(negated)
     }
 }
 
@@ -111,27 +88,4 @@ fn accepted<F: Field>(model: &Model<F>, call: Call) -> bool {
         Call::Double(target, a) | Call::Negate(target, a) => target <= 15 && a <= 15,
         Call::Show(register) => register <= 15,
     }
-}
-
-// Adds an entry to an account, to the count of its divisor where that stands there already.
-fn count_in(account: &mut Vec<Entry>, entry: Entry) -> Result<(), AllocError> {
-    for i in 0..account.len() {
-        if same(account[i].divisor, entry.divisor) {
-            let count = account[i].count.saturating_add(entry.count);
-            account[i].count = count;
-            return Ok(());
-        }
-    }
-    account.push(entry)?;
-    Ok(())
-}
-
-// Whether two divisors have the same numbers.
-pub fn same(a: Divisor, b: Divisor) -> bool {
-    a.degree == b.degree
-        && a.u.x1 == b.u.x1
-        && a.u.x0 == b.u.x0
-        && a.v.x1 == b.v.x1
-        && a.v.x0 == b.v.x0
-        && a.n == b.n
 }

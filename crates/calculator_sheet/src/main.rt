@@ -6,53 +6,42 @@
 // its degree, u1, u0, v1, v0 and n. Empty lines and lines that begin with # are passed over.
 #![tactic(auto)]
 
-use list::{List, header};
-use sending::send;
+use list::{List, parse_call};
+use notation::{each_trimmed_line, over};
 use std::io;
-use std::io::{BufRead, BufReader};
 
 mod accounts;
 mod list;
 mod sending;
 
 fn main(rt: HostRuntime) -> io::Result<()> {
-    let mut open: Option<List> = None;
-    for line in BufReader::new(rt.alloc(), rt.stdin())?.lines(rt.alloc()) {
-        let line = line?;
-        let text = line.as_str().trim();
-        if text.is_empty() || text.starts_with('#') {
-            continue;
-        }
-        open = take(&rt, open, text)?;
-    }
+    let mut open = None;
+    each_trimmed_line(&rt, |text| take(&rt, &mut open, text))?;
     close(&rt, open)
 }
 
 // One line more: a call of the list that is open, or the head of another.
-fn take(rt: &HostRuntime, open: Option<List>, text: &str) -> io::Result<Option<List>> {
-    if let Some(rest) = text.strip_prefix("on ") {
-        close(rt, open)?;
+fn take(rt: &HostRuntime, open: &mut Option<List>, text: &str) -> io::Result<()> {
+    if let Some(head) = text.strip_prefix("on ") {
+        close(rt, open.take())?;
         println!(rt; "{text}")?;
-        let list = header(rt.alloc(), rest);
-        if list.is_none() {
+        *open = List::parse(rt.alloc(), head);
+        if open.is_none() {
             println!(rt; "bad line: a list begins with on FIELD | f4 f3 f2 f1 f0")?;
         }
-        return Ok(list);
+        return Ok(());
     }
-    let Some(mut list) = open else {
-        println!(rt; "bad line: {text}")?;
-        return Ok(None);
-    };
-    if !list.push(text)? {
-        println!(rt; "bad line: {text}")?;
+    match (open, parse_call(text)) {
+        (Some(list), Some(call)) => list.push(call)?,
+        _ => println!(rt; "bad line: {text}")?,
     }
-    Ok(Some(list))
+    Ok(())
 }
 
 // Sends the calls of a list that ends.
 fn close(rt: &HostRuntime, open: Option<List>) -> io::Result<()> {
     match open {
-        Some(list) => send(rt, list),
+        Some(list) => over(rt, list.field, list),
         None => Ok(()),
     }
 }

@@ -1,59 +1,29 @@
 // Sends a list of calls to two calculators, and prints what comes of it.
-use crate::accounts::{Accounts, same};
-use crate::list::{List, draft};
-use calculator::{Answer, Calculator, Call, CallRefusal, Comparison, agree};
+use crate::accounts::{Account, Accounts};
+use crate::list::List;
+use calculator::{Answer, Calculator, Comparison, agree};
 use closed_formulas::Closed;
-use fields::{Field, Nine, Pairs, Residues};
-use methods::{ByPolynomials, Divisor, Model};
-use notation::Named;
+use fields::{Field, FieldRefusal};
+use methods::{ByPolynomials, Divisor, Draft, Model};
+use notation::FieldTask;
 use std::io;
 
-// Makes the field twice, one for each calculator, and sends the calls; or prints why the field is refused.
-pub fn send(rt: &HostRuntime, list: List) -> io::Result<()> {
-    match list.field {
-        Named::Nine => check(rt, Nine::new(), Nine::new(), list),
-        Named::Residues(m) => on_residues(rt, m, None, list),
-        Named::Pairs(m, r) => on_residues(rt, m, Some(r), list),
-    }
-}
-
-fn on_residues(rt: &HostRuntime, m: u16, r: Option<u32>, list: List) -> io::Result<()> {
-    let mut table = [0; 8191];
-    let entries = (m as usize).min(8191);
-    on_table(rt, m, r, &mut table[0..entries], list)
-}
-
-fn on_table(
-    rt: &HostRuntime,
-    m: u16,
-    r: Option<u32>,
-    table: &mut [u16],
-    list: List,
-) -> io::Result<()> {
-    if let Err(refusal) = Residues::fill(m, table) {
-        return println!(rt; "field refused: {refusal}");
-    }
-    let residues = Residues::on(m, table);
-    let Some(r) = r else {
-        return check(rt, residues, residues, list);
-    };
-    match (Pairs::over(residues, r), Pairs::over(residues, r)) {
-        (Ok(one), Ok(other)) => check(rt, one, other, list),
-        (Err((_, refusal)), _) | (_, Err((_, refusal))) => println!(rt; "field refused: {refusal}"),
-    }
-}
-
-// Makes the two calculators, or prints why the curve is refused.
-fn check<F: Field + Drop>(rt: &HostRuntime, one: F, other: F, list: List) -> io::Result<()> {
-    match (
-        Model::check(one, draft(list.curve)),
-        Model::check(other, draft(list.curve)),
-    ) {
-        (Ok(first), Ok(second)) => exchange(rt, first, second, list),
-        (Err((_, _, refusal)), _) | (_, Err((_, _, refusal))) => {
-            let number = refusal.number();
-            println!(rt; "curve refused {number}")
+impl FieldTask for List {
+    // Makes the models of the two calculators on one field, or prints why the curve is refused.
+    fn run<F: Field + Drop>(self, rt: &HostRuntime, field: F) -> io::Result<()> {
+        match (
+            Model::check(&field, Draft::from(self.curve)),
+            Model::check(&field, Draft::from(self.curve)),
+        ) {
+            (Ok(first), Ok(second)) => exchange(rt, first, second, self.calls),
+            (Err((_, _, refusal)), _) | (_, Err((_, _, refusal))) => {
+                println!(rt; "curve refused {}", refusal.number())
+            }
         }
+    }
+
+    fn refuse(rt: &HostRuntime, refusal: FieldRefusal) -> io::Result<()> {
+        println!(rt; "field refused: {refusal}")
     }
 }
 
@@ -62,79 +32,42 @@ fn exchange<F: Field + Drop>(
     rt: &HostRuntime,
     first: Model<F>,
     second: Model<F>,
-    list: List,
+    mut calls: Vec<Comparison>,
 ) -> io::Result<()> {
-    let mut calls = list.calls;
     let mut accounts = Accounts::new(rt.alloc())?;
-    for comparison in calls.iter() {
+    for comparison in &calls {
         accounts.draw(rt.alloc(), &first, comparison.call)?;
     }
     let mut closed: Calculator<F, Closed<ByPolynomials>> = Calculator::new(first);
     let mut plain: Calculator<F, ByPolynomials> = Calculator::new(second);
     agree(&mut closed, &mut plain, calls.as_mut_slice());
-    for comparison in calls.iter() {
+    for comparison in &calls {
         show_answers(rt, *comparison)?;
     }
-    for register in 0..16 {
-        show_register(
-            rt,
-            register,
-            closed.show(register),
-            plain.show(register),
-            &accounts,
-        )?;
+    for (register, account) in (0..16).zip(&accounts.of) {
+        if let (Ok(divisor), Ok(other)) = (closed.show(register), plain.show(register)) {
+            show_register(rt, register, divisor, other, account)?;
+        }
     }
     Ok(())
 }
 
 // A call with what was answered to it, once where the calculators agree.
 fn show_answers(rt: &HostRuntime, comparison: Comparison) -> io::Result<()> {
-    show_call(rt, comparison.call)?;
+    print!(rt; "{}: ", comparison.call)?;
     show_answer(rt, comparison.first)?;
-    if !same_answer(comparison.first, comparison.second) {
+    if comparison.first != comparison.second {
         print!(rt; ", but the polynomial method: ")?;
         show_answer(rt, comparison.second)?;
     }
     println!(rt; "")
 }
 
-fn show_call(rt: &HostRuntime, call: Call) -> io::Result<()> {
-    match call {
-        Call::Enter(target, divisor) => {
-            print!(rt; "enter {target} ")?;
-            show_divisor(rt, divisor)?;
-            print!(rt; ": ")
-        }
-        Call::Add(target, a, b) => print!(rt; "add {target} {a} {b}: "),
-        Call::Double(target, a) => print!(rt; "double {target} {a}: "),
-        Call::Negate(target, a) => print!(rt; "negate {target} {a}: "),
-        Call::Show(register) => print!(rt; "show {register}: "),
-    }
-}
-
 fn show_answer(rt: &HostRuntime, answer: Answer) -> io::Result<()> {
     match answer {
-        Answer::Done => print!(rt; "done"),
-        Answer::Shown(divisor) => show_divisor(rt, divisor),
-        Answer::Refused(refusal) => {
-            let number = refusal.number();
-            print!(rt; "refused {number}")
-        }
-    }
-}
-
-// Degree, u1, u0, v1, v0 and n.
-fn show_divisor(rt: &HostRuntime, divisor: Divisor) -> io::Result<()> {
-    let Divisor { degree, u, v, n } = divisor;
-    print!(rt; "{degree} {} {} {} {} {n}", u.x1, u.x0, v.x1, v.x0)
-}
-
-fn same_answer(a: Answer, b: Answer) -> bool {
-    match (a, b) {
-        (Answer::Done, Answer::Done) => true,
-        (Answer::Shown(d), Answer::Shown(e)) => same(d, e),
-        (Answer::Refused(d), Answer::Refused(e)) => d.number() == e.number(),
-        _ => false,
+        Ok(None) => print!(rt; "done"),
+        Ok(Some(divisor)) => print!(rt; "{divisor}"),
+        Err(refusal) => print!(rt; "refused {}", refusal.number()),
     }
 }
 
@@ -142,32 +75,20 @@ fn same_answer(a: Answer, b: Answer) -> bool {
 fn show_register(
     rt: &HostRuntime,
     register: u8,
-    first: Result<Divisor, CallRefusal>,
-    second: Result<Divisor, CallRefusal>,
-    accounts: &Accounts,
+    divisor: Divisor,
+    other: Divisor,
+    account: &Account,
 ) -> io::Result<()> {
-    let (Ok(divisor), Ok(other), Some(account)) = (
-        first,
-        second,
-        accounts.of.get(register as usize),
-    ) else {
-        return Ok(());
-    };
     if account.is_empty() {
         return Ok(());
     }
-    print!(rt; "register {register}: ")?;
-    show_divisor(rt, divisor)?;
-    if !same(divisor, other) {
-        print!(rt; ", but the polynomial method: ")?;
-        show_divisor(rt, other)?;
+    print!(rt; "register {register}: {divisor}")?;
+    if divisor != other {
+        print!(rt; ", but the polynomial method: {other}")?;
     }
     print!(rt; " settles")?;
-    for entry in account.iter() {
-        let count = entry.count;
-        print!(rt; " {count} x [")?;
-        show_divisor(rt, entry.divisor)?;
-        print!(rt; "]")?;
+    for (divisor, count) in account {
+        print!(rt; " {count} x [{divisor}]")?;
     }
     println!(rt; "")
 }

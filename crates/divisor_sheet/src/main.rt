@@ -4,39 +4,37 @@
 // over.
 #![tactic(auto)]
 
-use notation::{over, parse_field};
-use parse::lines;
+use notation::{Named, each_line, over};
 use std::io;
-use std::io::{BufRead, BufReader};
 use sums::Sums;
 
-mod parse;
 mod sums;
 
 fn main(rt: HostRuntime) -> io::Result<()> {
-    for line in BufReader::new(rt.alloc(), rt.stdin())?.lines(rt.alloc()) {
-        let line = line?;
-        let text = line.as_str();
-        if !text.trim().is_empty() && !text.starts_with('#') {
-            println!(rt; "{text}")?;
-            answer(&rt, text)?;
-        }
-    }
-    Ok(())
+    each_line(&rt, |text| {
+        println!(rt; "{text}")?;
+        answer(&rt, text)
+    })
 }
 
 // Prints what a line asks for, or why it is refused.
 fn answer(rt: &HostRuntime, text: &str) -> io::Result<()> {
-    let Some((field, curve, d, e)) = lines(text) else {
+    let Some((field, curve, d, e)) = parts(text) else {
         return println!(rt; "refused: a line is FIELD | CURVE | D | E");
     };
-    let Some(named) = parse_field(field) else {
-        return println!(rt; "refused: a field is residues M, nine or pairs M R");
-    };
-    match Sums::parse(curve, d, e) {
-        Some(sums) => over(rt, named, sums),
-        None => println!(rt;
+    match (field.parse::<Named>(), Sums::parse(curve, d, e)) {
+        (Ok(field), Some(sums)) => over(rt, field, sums),
+        (Err(fault), _) => println!(rt; "refused: {fault}"),
+        (Ok(_), None) => println!(rt;
             "refused: a curve is five numbers, and a divisor is its degree, u1, u0, v1, v0 and n"
         ),
     }
+}
+
+// The four parts of a line `FIELD | CURVE | D | E`.
+fn parts(text: &str) -> Option<(&str, &str, &str, &str)> {
+    let (field, rest) = text.split_once('|')?;
+    let (curve, rest) = rest.split_once('|')?;
+    let (d, e) = rest.split_once('|')?;
+    Some((field, curve, d, e))
 }

@@ -1,14 +1,15 @@
 // What is printed for a curve and two divisors, over any field.
-use crate::parse::{divisor, draft};
 use fields::Field;
-use methods::{ByPolynomials, Divisor, DivisorRefusal, Draft, Method, Model, entered, negative};
+use methods::{
+    ByPolynomials, Curve, Divisor, DivisorRefusal, Draft, Method, Model, entered, negative,
+};
 use notation::FieldTask;
-use std::io;
+use std::{fmt, io};
 
-// A curve that is still a draft, and two divisors.
-#[derive(Drop)]
+// A curve that is not checked yet, and two divisors.
+#[derive(Clone, Copy, Debug, PartialEq, Eq)]
 pub struct Sums {
-    draft: Draft,
+    curve: Curve,
     first: Divisor,
     second: Divisor,
 }
@@ -16,30 +17,19 @@ pub struct Sums {
 impl Sums {
     // A curve and two divisors by their texts.
     pub fn parse(curve: &str, first: &str, second: &str) -> Option<Sums> {
-        let first = divisor(first)?;
-        let second = divisor(second)?;
-        let draft = draft(curve)?;
         Some(Sums {
-            draft,
-            first,
-            second,
+            curve: notation::curve(curve)?,
+            first: notation::divisor(first)?,
+            second: notation::divisor(second)?,
         })
     }
 }
 
 impl FieldTask for Sums {
     fn run<F: Field + Drop>(self, rt: &HostRuntime, field: F) -> io::Result<()> {
-        let Sums {
-            draft,
-            first,
-            second,
-        } = self;
-        match Model::check(field, draft) {
-            Ok(model) => report(rt, &model, first, second),
-            Err((_, _, refusal)) => {
-                let number = refusal.number();
-                println!(rt; "curve refused {number}")
-            }
+        match Model::check(field, Draft::from(self.curve)) {
+            Ok(model) => report(rt, &model, self.first, self.second),
+            Err((_, _, refusal)) => println!(rt; "curve refused {}", refusal.number()),
         }
     }
 }
@@ -51,47 +41,26 @@ fn report<F: Field>(
     first: Divisor,
     second: Divisor,
 ) -> io::Result<()> {
-    let field = model.field();
-    let curve = model.curve();
+    let (field, curve) = (model.field(), model.curve());
     let valid = entered(field, curve, first);
-    judge(rt, "first", valid)?;
-    judge(rt, "second", entered(field, curve, second))?;
-    show(
-        rt,
-        "sum",
-        <ByPolynomials as Method<_>>::add(field, curve, first, second),
-    )?;
+    show(rt, "first", valid.map(|_| "valid"))?;
+    show(rt, "second", entered(field, curve, second).map(|_| "valid"))?;
+    show(rt, "sum", ByPolynomials::add(field, curve, first, second))?;
     if valid.is_ok() {
-        show(
-            rt,
-            "double",
-            <ByPolynomials as Method<_>>::double(field, curve, first),
-        )?;
+        show(rt, "double", ByPolynomials::double(field, curve, first))?;
         show(rt, "negative", Ok(negative(field, first)))?;
     }
     Ok(())
 }
 
-fn judge(rt: &HostRuntime, name: &str, answer: Result<Divisor, DivisorRefusal>) -> io::Result<()> {
+// What is answered, or the number of a refusal.
+fn show<T: fmt::Display + Drop>(
+    rt: &HostRuntime,
+    name: &str,
+    answer: Result<T, DivisorRefusal>,
+) -> io::Result<()> {
     match answer {
-        Ok(_) => println!(rt; "{name} valid"),
-        Err(refusal) => {
-            let number = refusal.number();
-            println!(rt; "{name} refused {number}")
-        }
-    }
-}
-
-// A divisor by its degree, u1, u0, v1, v0 and n, or the number of a refusal.
-fn show(rt: &HostRuntime, name: &str, answer: Result<Divisor, DivisorRefusal>) -> io::Result<()> {
-    match answer {
-        Ok(d) => {
-            let Divisor { degree, u, v, n } = d;
-            println!(rt; "{name} {degree} {} {} {} {} {n}", u.x1, u.x0, v.x1, v.x0)
-        }
-        Err(refusal) => {
-            let number = refusal.number();
-            println!(rt; "{name} refused {number}")
-        }
+        Ok(shown) => println!(rt; "{name} {shown}"),
+        Err(refusal) => println!(rt; "{name} refused {}", refusal.number()),
     }
 }

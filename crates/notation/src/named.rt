@@ -1,77 +1,93 @@
 // Fields by their names, and what is done over the field that a name stands for.
-use fields::{Field, Nine, Pairs, Residues};
-use std::io;
+use fields::{Field, FieldRefusal, Nine, Pairs, Residues};
+use std::error::Error;
+use std::num::ParseIntError;
+use std::str::FromStr;
+use std::{fmt, io};
 
 // The residues modulo M, the field of nine elements, or the pairs with t² = R over the residues modulo M.
-#[derive(Clone, Copy)]
+#[derive(Clone, Copy, Debug, PartialEq, Eq, Hash)]
 pub enum Named {
     Residues(u16),
     Nine,
     Pairs(u16, u32),
 }
 
-// Something to do over any field.
-pub trait FieldTask: Sized {
-    fn run<F: Field + Drop>(self, rt: &HostRuntime, field: F) -> io::Result<()>;
+// A field's name, as it is read.
+impl fmt::Display for Named {
+    fn fmt<W: fmt::Write>(&self, f: &mut fmt::Formatter<W>) -> fmt::Result {
+        match *self {
+            Named::Residues(m) => write!(f, "residues {m}"),
+            Named::Nine => write!(f, "nine"),
+            Named::Pairs(m, r) => write!(f, "pairs {m} {r}"),
+        }
+    }
+}
+
+// A text that is no field's name.
+#[derive(Clone, Copy, Debug, PartialEq, Eq, Hash)]
+pub struct NotAField;
+
+impl fmt::Display for NotAField {
+    fn fmt<W: fmt::Write>(&self, f: &mut fmt::Formatter<W>) -> fmt::Result {
+        write!(f, "a field is residues M, nine or pairs M R")
+    }
+}
+
+impl Error for NotAField {}
+
+impl From<ParseIntError> for NotAField {
+    fn from(_: ParseIntError) -> NotAField {
+        NotAField
+    }
 }
 
 // A field by its name: `residues M`, `nine` or `pairs M R`.
-pub fn parse_field(text: &str) -> Option<Named> {
-    let mut words = text.split_whitespace();
-    let named = match words.next()? {
-        "residues" => Named::Residues(words.next()?.parse::<u16>().ok()?),
-        "nine" => Named::Nine,
-        "pairs" => {
-            let m = words.next()?.parse::<u16>().ok()?;
-            Named::Pairs(m, words.next()?.parse::<u32>().ok()?)
+impl FromStr for Named {
+    type Err = NotAField;
+
+    ghost use Rattle.notation.specs.Names.{NamesItsKind};
+
+    ghost from_str_gives = { NamesItsKind };
+
+    fn from_str(text: &str) -> Result<Named, NotAField> {
+        let mut words = text.split_whitespace();
+        match (words.next(), words.next(), words.next(), words.next()) {
+            (Some("residues"), Some(m), None, None) => Ok(Named::Residues(m.parse()?)),
+            (Some("nine"), None, None, None) => Ok(Named::Nine),
+            (Some("pairs"), Some(m), Some(r), None) => Ok(Named::Pairs(m.parse()?, r.parse()?)),
+            _ => Err(NotAField),
         }
-        _ => return None,
-    };
-    if words.next().is_some() {
-        None
-    } else {
-        Some(named)
+    }
+}
+
+// Something to do over any field. A closure has one type of argument, and so cannot take each field in turn.
+pub trait FieldTask: Sized {
+    fn run<F: Field + Drop>(self, rt: &HostRuntime, field: F) -> io::Result<()>;
+
+    // Prints why there is no such field.
+    fn refuse(rt: &HostRuntime, refusal: FieldRefusal) -> io::Result<()> {
+        println!(rt; "refused: {refusal}")
     }
 }
 
 // Makes the field and does the task over it, or prints why the field is refused.
 pub fn over<T: FieldTask + Drop>(rt: &HostRuntime, named: Named, task: T) -> io::Result<()> {
-    match named {
-        Named::Nine => task.run(rt, Nine::new()),
-        Named::Residues(m) => over_residues(rt, m, None, task),
-        Named::Pairs(m, r) => over_residues(rt, m, Some(r), task),
+    let (m, r) = match named {
+        Named::Nine => return task.run(rt, Nine::new()),
+        Named::Residues(m) => (m, None),
+        Named::Pairs(m, r) => (m, Some(r)),
+    };
+    let mut table = vec![in rt.alloc(); 0; usize::from(m)]?;
+    if let Err(refusal) = Residues::fill(m, table.as_mut_slice()) {
+        return T::refuse(rt, refusal);
     }
-}
-
-// The task over the residues modulo m, or over the pairs with t² = r on them.
-fn over_residues<T: FieldTask + Drop>(
-    rt: &HostRuntime,
-    m: u16,
-    r: Option<u32>,
-    task: T,
-) -> io::Result<()> {
-    let mut table = [0; 8191];
-    let entries = (m as usize).min(8191);
-    on_table(rt, m, r, &mut table[0..entries], task)
-}
-
-// The same, on a table for the inverses.
-fn on_table<T: FieldTask + Drop>(
-    rt: &HostRuntime,
-    m: u16,
-    r: Option<u32>,
-    table: &mut [u16],
-    task: T,
-) -> io::Result<()> {
-    if let Err(refusal) = Residues::fill(m, table) {
-        return println!(rt; "refused: {refusal}");
-    }
-    let residues = Residues::on(m, table);
-    match r {
-        None => task.run(rt, residues),
-        Some(r) => match Pairs::over(residues, r) {
-            Err((_, refusal)) => println!(rt; "refused: {refusal}"),
-            Ok(pairs) => task.run(rt, pairs),
-        },
+    let residues = Residues::on(m, table.as_slice());
+    let Some(r) = r else {
+        return task.run(rt, residues);
+    };
+    match Pairs::over(residues, r) {
+        Ok(pairs) => task.run(rt, pairs),
+        Err((_, refusal)) => T::refuse(rt, refusal),
     }
 }

@@ -1,16 +1,18 @@
 // Rows of numbers with spaces between.
+ghost use Rattle.std.specs.Prelude.{◌≤◌, length, IfSome};
 
-// The numbers of a text, as many as the row has or fewer, with 0 for those that are missing; and how many there were. None
-// where a word is no number below 2³², or where there are too many.
-pub fn numbers<const N: usize>(text: &str) -> Option<([u32; N], usize)> {
-    let mut row = [0; N];
-    let mut n = 0;
-    for word in text.split_whitespace() {
-        if n >= N {
-            return None;
-        }
-        row[n] = word.parse::<u32>().ok()?;
-        n += 1;
+use std::str::FromStr;
+
+// The N numbers of a text. None where a word is no number of the row's type, or where there are fewer numbers or more.
+pub fn row<T: FromStr + Copy + Default, const N: usize>(text: &str) -> Option<[T; N]>
+where
+    T::Err: Drop,
+    ensures { IfSome result (λ _. N ≤ length text.now) }
+{
+    let mut words = text.split_whitespace();
+    let mut row = [T::default(); N];
+    for place in &mut row {
+        *place = words.next()?.parse().ok()?;
     }
-    Some((row, n))
+    words.next().is_none().then_some(row)
 }

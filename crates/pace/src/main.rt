@@ -5,41 +5,57 @@
 // the sums per second are printed as well.
 #![tactic(auto)]
 
-use notation::{over, parse_field};
+use methods::{Curve, Divisor, Linear};
+use notation::{Named, over};
 use sequence::Sequence;
 use std::{env, io};
 
 mod sequence;
 
 fn main(rt: HostRuntime) -> io::Result<()> {
-    let mut words = env::args(&rt)?;
-    let _ = words.next();
-    let asked = match words.next() {
-        Some(word) => word.as_str().parse::<u32>().ok(),
-        None => None,
-    };
+    let asked = env::args(&rt)?
+        .nth(1)
+        .and_then(|word| word.parse::<u32>().ok());
     let residues = Sequence {
-        curve: [423, 6114, 4985, 5802, 2724],
-        first: [4805, 3862, 8090, 5285],
-        second: [5074, 5504, 945, 1758],
+        curve: Curve {
+            f4: 423,
+            f3: 6114,
+            f2: 4985,
+            f1: 5802,
+            f0: 2724,
+        },
+        first: of_degree_2([4805, 3862], [8090, 5285]),
+        second: of_degree_2([5074, 5504], [945, 1758]),
         sums: asked.unwrap_or(1000),
         timed: asked.is_some(),
     };
     let pairs = Sequence {
-        curve: [43373, 20865, 27900, 21633, 41421],
-        first: [9196, 61853, 29814, 35410],
-        second: [59518, 54966, 28395, 2687],
-        sums: asked.unwrap_or(1000),
-        timed: asked.is_some(),
+        curve: Curve {
+            f4: 43373,
+            f3: 20865,
+            f2: 27900,
+            f1: 21633,
+            f0: 41421,
+        },
+        first: of_degree_2([9196, 61853], [29814, 35410]),
+        second: of_degree_2([59518, 54966], [28395, 2687]),
+        ..residues
     };
-    over_named(&rt, "residues 8191", residues)?;
-    over_named(&rt, "pairs 251 6", pairs)
+    measure(&rt, Named::Residues(8191), residues)?;
+    measure(&rt, Named::Pairs(251, 6), pairs)
 }
 
-fn over_named(rt: &HostRuntime, name: &str, sequence: Sequence) -> io::Result<()> {
-    println!(rt; "{name}")?;
-    match parse_field(name) {
-        Some(named) => over(rt, named, sequence),
-        None => Ok(()),
+fn measure(rt: &HostRuntime, field: Named, sequence: Sequence) -> io::Result<()> {
+    println!(rt; "{field}")?;
+    over(rt, field, sequence)
+}
+
+// The divisor with these u1 and u0, and v1 and v0.
+fn of_degree_2([u1, u0]: [u32; 2], [v1, v0]: [u32; 2]) -> Divisor {
+    Divisor {
+        degree: 2,
+        u: Linear { x1: u1, x0: u0 },
+        v: Linear { x1: v1, x0: v0 },
+        n: 0,
     }
 }

@@ -4,24 +4,18 @@
 // # are passed over.
 #![tactic(auto)]
 
-use notation::{numbers, over, parse_field};
+use notation::{Named, each_line, over};
 use polynomials::Polynomial;
 use report::Report;
 use std::io;
-use std::io::{BufRead, BufReader};
 
 mod report;
 
 fn main(rt: HostRuntime) -> io::Result<()> {
-    for line in BufReader::new(rt.alloc(), rt.stdin())?.lines(rt.alloc()) {
-        let line = line?;
-        let text = line.as_str();
-        if !text.trim().is_empty() && !text.starts_with('#') {
-            println!(rt; "{text}")?;
-            answer(&rt, text)?;
-        }
-    }
-    Ok(())
+    each_line(&rt, |text| {
+        println!(rt; "{text}")?;
+        answer(&rt, text)
+    })
 }
 
 // Prints what a line asks for, or why it is refused.
@@ -29,11 +23,9 @@ fn answer(rt: &HostRuntime, text: &str) -> io::Result<()> {
     let Some((field, a, b)) = sides(text) else {
         return println!(rt; "refused: a line is FIELD | A | B");
     };
-    match (parse_field(field), polynomial(a), polynomial(b)) {
-        (Some(field), Some(a), Some(b)) => over(rt, field, Report { a, b }),
-        (None, Some(_), Some(_)) => println!(rt;
-            "refused: a field is residues M, nine or pairs M R"
-        ),
+    match (field.parse::<Named>(), polynomial(a), polynomial(b)) {
+        (Ok(field), Some(a), Some(b)) => over(rt, field, Report { a, b }),
+        (Err(fault), Some(_), Some(_)) => println!(rt; "refused: {fault}"),
         _ => println!(rt;
             "refused: a polynomial is at most ten numbers, the lowest coefficient first"
         ),
@@ -49,6 +41,10 @@ fn sides(text: &str) -> Option<(&str, &str, &str)> {
 
 // A polynomial by its coefficients, the lowest first. No number at all is the polynomial 0.
 fn polynomial(text: &str) -> Option<Polynomial> {
-    let (codes, _) = numbers::<10>(text)?;
+    let mut codes = [0; 10];
+    let mut places = codes.iter_mut();
+    for word in text.split_whitespace() {
+        *places.next()? = word.parse().ok()?;
+    }
     Some(Polynomial { codes })
 }

@@ -22,17 +22,22 @@ impl FieldTask for Report {
         let field = &field;
         let (quotient, remainder) = divide(field, a, b);
         let shared = gcd(field, a, b);
-        show(rt, field, "sum", sum(field, a, b))?;
-        show(rt, field, "difference", difference(field, a, b))?;
-        show(rt, field, "negative", negative(field, a))?;
-        show(rt, field, "product", product(field, a, b))?;
-        show(rt, field, "quotient", quotient)?;
-        show(rt, field, "remainder", remainder)?;
-        show(rt, field, "gcd", shared.divisor)?;
-        show(rt, field, "first", shared.first)?;
-        show(rt, field, "second", shared.second)?;
-        show(rt, field, "derivative", derivative(field, a))?;
-        show(rt, field, "multiple", multiple(field, leading(field, b), a))?;
+        let rows = [
+            ("sum", sum(field, a, b)),
+            ("difference", difference(field, a, b)),
+            ("negative", negative(field, a)),
+            ("product", product(field, a, b)),
+            ("quotient", quotient),
+            ("remainder", remainder),
+            ("gcd", shared.divisor),
+            ("first", shared.first),
+            ("second", shared.second),
+            ("derivative", derivative(field, a)),
+            ("multiple", multiple(field, leading(field, b), a)),
+        ];
+        for (name, p) in rows {
+            show(rt, field, name, p)?;
+        }
         match degree(field, a) {
             Some(n) => println!(rt; "degree {n}")?,
             None => println!(rt; "degree none")?,

@@ -6,36 +6,30 @@
 // is not as it was.
 #![tactic(auto)]
 
-use case::parse;
-use outcome::{by_closed_formulas, by_polynomials};
+use case::Case;
+use notation::each_trimmed_line;
+use outcome::{Outcome, by_closed_formulas, by_polynomials};
 use std::alloc::{AllocError, Global};
 use std::io;
-use std::io::{BufRead, BufReader};
 
 mod case;
-mod hexadecimal;
 mod outcome;
 
 fn main(rt: HostRuntime) -> io::Result<()> {
-    for line in BufReader::new(rt.alloc(), rt.stdin())?.lines(rt.alloc()) {
-        let line = line?;
-        let text = line.as_str().trim();
-        if !text.is_empty() && !text.starts_with('#') {
-            let answer = answer(rt.alloc(), text)?;
-            println!(rt; "{answer}")?;
-        }
-    }
-    Ok(())
+    each_trimmed_line(&rt, |text| {
+        let answer = answer(rt.alloc(), text)?;
+        println!(rt; "{answer}")
+    })
 }
 
 // What is printed for a line.
 fn answer(heap: Global, text: &str) -> Result<String, AllocError> {
-    let Some(case) = parse(heap, text)? else {
+    let Some(case) = Case::parse(heap, text)? else {
         return String::from_str(heap, "bad line");
     };
-    let outcome = by_closed_formulas(heap, &case)?;
+    let outcome = Outcome::of(heap, &case, by_closed_formulas)?;
     let mut shown = outcome.show(heap)?;
-    if !outcome.same(&by_polynomials(heap, &case)?) {
+    if outcome != Outcome::of(heap, &case, by_polynomials)? {
         shown.push_str(" differs")?;
     }
     if outcome.touched() {

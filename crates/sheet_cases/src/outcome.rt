@@ -1,80 +1,69 @@
 // What comes of the run of a sheet.
 use crate::case::Case;
-use crate::hexadecimal::push_bytes;
 use methods::ByPolynomials;
 use run::{run_by, zafindoro_run};
 use std::alloc::{AllocError, Global};
 
 // The number answered, and the whole output as the run left it.
-#[derive(Drop)]
+#[derive(Debug, PartialEq, Eq, Drop)]
 pub struct Outcome {
     answer: u32,
     output: Vec<u8>,
 }
 
-// The run as a host program has it, with closed formulas over the polynomial method.
-pub fn by_closed_formulas(heap: Global, case: &Case) -> Result<Outcome, AllocError> {
-    let mut output = untouched(heap, case.room)?;
-    let answer = zafindoro_run(&case.sheet, output.as_mut_slice());
-    Ok(Outcome { answer, output })
+// The run as a host program has it, with closed formulas over the polynomial method. It has a name of this crate, since the check
+// finds no contract for a function of another crate that is passed by its name.
+pub fn by_closed_formulas(sheet: &[u8], output: &mut [u8]) -> u32 {
+    zafindoro_run(sheet, output)
 }
 
-// The run with the polynomial method alone.
-pub fn by_polynomials(heap: Global, case: &Case) -> Result<Outcome, AllocError> {
-    let mut entries = [0u16; 8191];
-    let mut output = untouched(heap, case.room)?;
-    let answer = run_by::<ByPolynomials>(&mut entries, &case.sheet, output.as_mut_slice());
-    Ok(Outcome { answer, output })
+// The run with the polynomial method alone: the number that a host program would be answered.
+pub fn by_polynomials(sheet: &[u8], output: &mut [u8]) -> u32 {
+    let mut entries = [0; 8191];
+    match run_by::<ByPolynomials>(&mut entries, sheet, output) {
+        Ok(count) => count as u32,
+        Err(refusal) => refusal.host_answer(),
+    }
 }
 
 impl Outcome {
-    // The number answered and the bytes written.
-    pub fn show(&self, heap: Global) -> Result<String, AllocError> {
-        let answer = self.answer;
-        let mut text = format!(in heap; "{answer}")?;
-        let written = self.written();
-        if !written.is_empty() {
-            text.push(' ')?;
-            push_bytes(&mut text, written)?;
-        }
-        Ok(text)
+    // What comes of a case by a run, which takes the sheet and the output.
+    pub fn of<R: FnOnce(&[u8], &mut [u8]) -> u32>(
+        heap: Global,
+        case: &Case,
+        run: R,
+    ) -> Result<Outcome, AllocError>
+        requires { R.IsAlwaysCallable run }
+    {
+        let mut output: Vec<u8> = (0..case.room).map(before).collect(heap)?;
+        let answer = run(case.sheet.as_slice(), output.as_mut_slice());
+        Ok(Outcome { answer, output })
     }
 
-    // Whether another run answers the same and leaves the same in the whole output.
-    pub fn same(&self, other: &Outcome) -> bool {
-        self.answer == other.answer && self.output.as_slice() == other.output.as_slice()
+    // The number answered and the bytes written.
+    pub fn show(&self, heap: Global) -> Result<String, AllocError> {
+        let written = self.written();
+        if written.is_empty() {
+            return format!(in heap; "{}", self.answer);
+        }
+        let bytes = hex::encode(heap, written)?;
+        format!(in heap; "{} {bytes}", self.answer)
     }
 
     // Whether a byte after the written ones is not as it was before the run.
     pub fn touched(&self) -> bool {
         let written = self.written().len();
-        for (i, byte) in self.output.iter().enumerate() {
-            if i >= written && *byte != before(i) {
-                return true;
-            }
-        }
-        false
+        self.output
+            .iter()
+            .enumerate()
+            .skip(written)
+            .any(|(place, byte)| *byte != before(place))
     }
 
     // The bytes written: none on a refusal, whose number is above the length of every output.
     fn written(&self) -> &[u8] {
-        let count = self.answer as usize;
-        let output = self.output.as_slice();
-        if count <= output.len() {
-            &output[0..count]
-        } else {
-            &output[0..0]
-        }
+        self.output.get(..self.answer as usize).unwrap_or(&[])
     }
-}
-
-// An output of so many bytes before a run.
-fn untouched(heap: Global, room: usize) -> Result<Vec<u8>, AllocError> {
-    let mut output = Vec::new(heap);
-    for i in 0..room {
-        output.push(before(i))?;
-    }
-    Ok(output)
 }
 
 // The byte at this place before a run. No two neighbours are equal, and no byte is a mark of a reply.
