@@ -2,4 +2,3 @@ pub mod Representations
 pub mod Validity
 pub mod Sums
 pub mod Lawful
-pub mod Roads

@@ -45,6 +45,7 @@ impl<F: Field, M: Method<F>> Method<F> for Closed<M> {
 }
 
 // The sum, where both divisors are valid and of degree 2, r ≠ 0 and p² ≠ r².
+#[tactic(auto, unfolding(crate::specs::Formulas::sum_formula))]
 fn sum_by_formula<F: Field>(field: &F, curve: Curve, a: Divisor, b: Divisor) -> Option<Divisor>
     ensures { (let K : Arithmetic = F.Field.meaning field.now in Lawful K → Accepted K curve → result ≡ sum_formula K curve a b) }
 {
@@ -57,6 +58,7 @@ fn sum_by_formula<F: Field>(field: &F, curve: Curve, a: Divisor, b: Divisor) -> 
 }
 
 // The double, where the divisor is valid and of degree 2, r ≠ 0 and p² ≠ r².
+#[tactic(auto, unfolding(crate::specs::Formulas::double_formula))]
 fn double_by_formula<F: Field>(field: &F, curve: Curve, a: Divisor) -> Option<Divisor>
     ensures { (let K : Arithmetic = F.Field.meaning field.now in Lawful K → Accepted K curve → result ≡ double_formula K curve a) }
 {

@@ -1,7 +1,6 @@
--- The layer holds the method, and over a lawful one it is lawful.
-use Rattle.std.proofs.Common.{refl}
+-- Over a lawful method the layer is lawful.
 use Rattle.closed_formulas.proofs.Lawful.{closed_lawful}
 use Rattle.closed_formulas.proofs.closed.Closed.over.Goals as goal
 
-pub returns : goal.returns
-returns g c = record { holds = refl; lawful = closed_lawful }
+pub returns-clause-lawful : goal.returns-clause-lawful
+returns-clause-lawful g c = closed_lawful
