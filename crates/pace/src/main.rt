@@ -26,8 +26,7 @@ fn main(rt: HostRuntime) -> io::Result<()> {
         },
         first: of_degree_2([4805, 3862], [8090, 5285]),
         second: of_degree_2([5074, 5504], [945, 1758]),
-        sums: asked.unwrap_or(1000),
-        timed: asked.is_some(),
+        asked,
     };
     let pairs = Sequence {
         curve: Curve {

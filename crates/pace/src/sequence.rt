@@ -6,14 +6,14 @@ use notation::FieldTask;
 use std::io;
 use std::time::{Duration, Instant};
 
-// A curve, the two divisors that a sequence begins with, how many sums it has, and whether they are timed.
+// A curve, the two divisors that a sequence begins with, and how many sums are asked for. They are timed then; where no number is
+// asked for, there are 1,000 sums, and no time is taken.
 #[derive(Clone, Copy, Debug, PartialEq, Eq)]
 pub struct Sequence {
     pub curve: Curve,
     pub first: Divisor,
     pub second: Divisor,
-    pub sums: u32,
-    pub timed: bool,
+    pub asked: Option<u32>,
 }
 
 impl FieldTask for Sequence {
@@ -42,8 +42,8 @@ fn one_method<F: Field, M: Method<F>>(
         Ok(divisor) => println!(rt; "{name}: {divisor}")?,
         Err(refusal) => println!(rt; "{name}: refused {}", refusal.number())?,
     }
-    if sequence.timed {
-        println!(rt; "{} sums per second", per_second(sequence.sums, took))?;
+    if let Some(sums) = sequence.asked {
+        println!(rt; "{} sums per second", per_second(sums, took))?;
     }
     Ok(())
 }
@@ -64,7 +64,7 @@ fn fibonacci<F: Field, M: Method<F>>(
     sequence: Sequence,
 ) -> Result<Divisor, DivisorRefusal> {
     let (mut before, mut last) = (sequence.first, sequence.second);
-    for _ in 0..sequence.sums {
+    for _ in 0..sequence.asked.unwrap_or(1000) {
         (before, last) = (last, M::add(field, curve, before, last)?);
     }
     Ok(last)

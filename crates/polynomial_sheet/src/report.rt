@@ -8,7 +8,7 @@ use polynomials::{
 use std::io;
 
 // The two polynomials of a line.
-#[derive(Clone, Copy)]
+#[derive(Clone, Copy, Debug)]
 pub struct Report {
     pub a: Polynomial,
     pub b: Polynomial,
@@ -47,7 +47,8 @@ impl FieldTask for Report {
     }
 }
 
-// A polynomial by its coefficients, the lowest first.
+// A polynomial by its coefficients, the lowest first. Each by the call that tells it, and not by a walk over the ten numbers, which
+// may be no codes.
 fn show<F: Field>(rt: &HostRuntime, field: &F, name: &str, p: Polynomial) -> io::Result<()> {
     print!(rt; "{name}")?;
     if is_zero(field, p) {
