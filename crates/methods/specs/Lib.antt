@@ -6,3 +6,4 @@ pub mod Steps
 pub mod Methods
 pub mod Theorems
 pub mod Worked
+pub mod Texts

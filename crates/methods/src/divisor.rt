@@ -114,11 +114,29 @@ impl Divisor {
     }
 }
 
+// x1 and x0.
+impl fmt::Display for Linear {
+    ghost use Rattle.std.specs.Prelude.{Some};
+    ghost use Rattle.methods.specs.Texts.{linear_text};
+
+    ghost output = { λ l. Some (linear_text l) };
+
+    fn fmt<W: fmt::Write>(&self, f: &mut fmt::Formatter<W>) -> fmt::Result {
+        let Linear { x1, x0 } = self;
+        write!(f, "{x1} {x0}")
+    }
+}
+
 // Degree, u1, u0, v1, v0 and n.
 impl fmt::Display for Divisor {
+    ghost use Rattle.std.specs.Prelude.{Some};
+    ghost use Rattle.methods.specs.Texts.{divisor_text};
+
+    ghost output = { λ d. Some (divisor_text d) };
+
     fn fmt<W: fmt::Write>(&self, f: &mut fmt::Formatter<W>) -> fmt::Result {
-        let Divisor { degree, u, v, n } = *self;
-        write!(f, "{degree} {} {} {} {} {n}", u.x1, u.x0, v.x1, v.x0)
+        let Divisor { degree, u, v, n } = self;
+        write!(f, "{degree} {u} {v} {n}")
     }
 }
 
