@@ -34,9 +34,6 @@ module _ {F M : Type 0} {field : Ghosts F} {law : Law} {old : Calculator F M} wh
       record { lawful = rw same sound.lawful; accepted = rw same sound.accepted; method = sound.method }
 
   module _ {X : Type 0} {call : X → Call} {answer : X → Answer} {start : List X} where
-    pub none_yet : Halfway field law call answer start 0 old old start
-    none_yet = record { calls = refl; model = refl; answered = λ _. refl; registers = λ _. refl }
-
     pub one_more : {i : ℕ} {mid new : Calculator F M} {xs : List X} (d x : X) → i < length xs
         → Halfway field law call answer start i old mid xs → call x ≡ call (get_or xs i d)
         → (Sound field law mid → answer x ≡ said (call (get_or xs i d)) (gives field mid (call (get_or xs i d))))

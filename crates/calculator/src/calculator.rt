@@ -11,7 +11,7 @@ use methods::{Divisor, Method, Model, entered, negative};
 use std::marker::PhantomData;
 
 // Sixteen registers, 0 to 15, on a model, with a method for their sums.
-#[derive(Drop)]
+#[derive(Debug, Drop)]
 pub struct Calculator<F, M> {
     model: Model<F>,
     registers: Registers,
@@ -19,6 +19,7 @@ pub struct Calculator<F, M> {
 }
 
 // Every call takes every field and method, lawful or not, so that `Sound` is a premise of the clauses and no invariant of the type.
+// Each kind of call is a method of its own, as double and negate, which differ in one line.
 impl<F: Field, M: Method<F>> Calculator<F, M> {
     // A fresh calculator on a model.
     pub fn new(model: Model<F>) -> Calculator<F, M>

@@ -3,6 +3,7 @@ ghost use Rattle.std.specs.Prelude.{◌≡◌};
 ghost use Rattle.calculator.specs.Calls.{call_refusal_number};
 
 use methods::{Divisor, DivisorRefusal};
+use std::error::Error;
 use std::fmt;
 
 // A call. A target may also be an operand.
@@ -22,9 +23,10 @@ pub enum Call {
 
 // The name of the call, then its registers and its divisor.
 impl fmt::Display for Call {
+    ghost use Rattle.std.specs.Prelude.{Some};
     ghost use Rattle.calculator.specs.Texts.{call_text};
 
-    ghost output = { call_text };
+    ghost output = { λ call. Some (call_text call) };
 
     fn fmt<W: fmt::Write>(&self, f: &mut fmt::Formatter<W>) -> fmt::Result {
         match self {
@@ -47,7 +49,8 @@ pub enum CallRefusal {
 }
 
 impl CallRefusal {
-    // The number of the condition. Fields, curves and divisors share these numbers, so it is looked up and is no conversion.
+    // The number of the condition. A method and no conversion: the number alone does not say which refusal it is, since fields
+    // and curves have a refusal 5 too.
     pub fn number(self) -> u8
         ensures { result ≡ call_refusal_number self }
     {
@@ -57,6 +60,18 @@ impl CallRefusal {
         }
     }
 }
+
+// The condition in words.
+impl fmt::Display for CallRefusal {
+    fn fmt<W: fmt::Write>(&self, f: &mut fmt::Formatter<W>) -> fmt::Result {
+        match self {
+            CallRefusal::NoSuchRegister => write!(f, "a register is above 15"),
+            CallRefusal::InvalidDivisor(why) => write!(f, "{why}"),
+        }
+    }
+}
+
+impl Error for CallRefusal {}
 
 // A divisor that is refused refuses the call.
 impl From<DivisorRefusal> for CallRefusal {

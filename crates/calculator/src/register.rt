@@ -32,6 +32,6 @@ impl From<Register> for usize {
     ghost from_gives = { λ register place. place ≡ register.number };
 
     fn from(register: Register) -> usize {
-        register.number as usize
+        usize::from(register.number)
     }
 }

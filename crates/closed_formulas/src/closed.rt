@@ -1,4 +1,7 @@
 // The layer of closed formulas over a method.
+//
+// Every call takes every field and curve. So that a field is lawful and a curve accepted stands as a premise in the clauses that
+// need it, and is no invariant of a type.
 ghost use Rattle.std.specs.Prelude.{◌≡◌, IfSome, is_some};
 ghost use Rattle.fields.specs.Arithmetic.{Arithmetic};
 ghost use Rattle.fields.specs.Lawful.{Lawful};
@@ -17,7 +20,7 @@ use methods::{Curve, Divisor, DivisorRefusal, Linear, Method, are_codes};
 
 // Sums and doubles of valid divisors of degree 2 by closed formulas, where those apply; everything else as the method underneath
 // answers it.
-#[derive(Clone, Copy, Debug)]
+#[derive(Clone, Copy, Debug, PartialEq, Eq, Hash)]
 pub struct Closed<M> {
     pub method: M,
 }
@@ -101,11 +104,6 @@ impl From<Quadratic> for Divisor {
     ghost from_gives = { λ d divisor. divisor ≡ quadratic (quadratic_of d) };
 
     fn from(d: Quadratic) -> Divisor {
-        Divisor {
-            degree: 2,
-            u: Linear { x1: d.a, x0: d.b },
-            v: Linear { x1: d.c, x0: d.e },
-            n: 0,
-        }
+        Divisor::of_degree_2(Linear { x1: d.a, x0: d.b }, Linear { x1: d.c, x0: d.e })
     }
 }

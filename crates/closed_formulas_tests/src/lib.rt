@@ -25,12 +25,7 @@ mod tests {
 
     // [x² + a·x + b; c·x + e; 0]
     fn quadratic(a: u32, b: u32, c: u32, e: u32) -> Divisor {
-        Divisor {
-            degree: 2,
-            u: Linear { x1: a, x0: b },
-            v: Linear { x1: c, x0: e },
-            n: 0,
-        }
+        Divisor::of_degree_2(Linear { x1: a, x0: b }, Linear { x1: c, x0: e })
     }
 
     // What the method underneath answers: refusal 4.
@@ -39,12 +34,12 @@ mod tests {
     // By the formulas alone: over a method that refuses everything with 4.
     fn sum(d: Divisor, e: Divisor) -> Result<Divisor, DivisorRefusal> {
         let field = Residues::on(7, &TABLE);
-        <Closed<Refusing> as Method<Residues>>::add(&field, CURVE, d, e)
+        Closed::<Refusing>::add(&field, CURVE, d, e)
     }
 
     fn double(d: Divisor) -> Result<Divisor, DivisorRefusal> {
         let field = Residues::on(7, &TABLE);
-        <Closed<Refusing> as Method<Residues>>::double(&field, CURVE, d)
+        Closed::<Refusing>::double(&field, CURVE, d)
     }
 
     #[test]

@@ -4,7 +4,7 @@ ghost use Rattle.closed_formulas_tests.specs.Refusing.{refusing as refusing_law}
 use fields::Field;
 use methods::{Curve, Divisor, DivisorRefusal, Method};
 
-#[derive(Clone, Copy, Debug)]
+#[derive(Clone, Copy, Debug, PartialEq, Eq, Hash)]
 pub struct Refusing;
 
 impl<F: Field> Method<F> for Refusing {

@@ -14,7 +14,7 @@ use crate::reduction::reduce;
 use fields::Field;
 
 // Composition and reduction by polynomials, on every curve.
-#[derive(Clone, Copy, Debug, Default)]
+#[derive(Clone, Copy, Debug, Default, PartialEq, Eq, Hash)]
 pub struct ByPolynomials;
 
 impl ByPolynomials {

@@ -14,7 +14,7 @@ use fields::Field;
 use polynomials::{Polynomial, divide, gcd, product, sum};
 
 // d = e1·u1 + e2·u2 + e3·(v1 + v2)
-#[derive(Clone, Copy)]
+#[derive(Clone, Copy, Debug)]
 pub struct Cofactors {
     pub d: Polynomial,
     pub e1: Polynomial,
@@ -23,7 +23,7 @@ pub struct Cofactors {
 }
 
 // A divisor by its polynomials, whose n may be −1.
-#[derive(Clone, Copy)]
+#[derive(Clone, Copy, Debug)]
 pub struct Composition {
     pub u: Polynomial,
     pub v: Polynomial,

@@ -5,6 +5,8 @@ ghost use Rattle.methods.specs.Curves.{sextic as sextic_of, root as root_of, cur
 
 use fields::Field;
 use polynomials::Polynomial;
+use std::error::Error;
+use std::fmt;
 
 // f = x⁶ + f4·x⁴ + f3·x³ + f2·x² + f1·x + f0, by its coefficients.
 #[derive(Clone, Copy, Debug, PartialEq, Eq, Hash)]
@@ -37,6 +39,18 @@ impl CurveRefusal {
         }
     }
 }
+
+// The condition in words.
+impl fmt::Display for CurveRefusal {
+    fn fmt<W: fmt::Write>(&self, f: &mut fmt::Formatter<W>) -> fmt::Result {
+        match self {
+            CurveRefusal::NotACode => write!(f, "a coefficient is above q − 1"),
+            CurveRefusal::Singular => write!(f, "f and its derivative share a factor"),
+        }
+    }
+}
+
+impl Error for CurveRefusal {}
 
 // f as a polynomial, in which a number that is no code is read as 0.
 pub fn sextic<F: Field>(field: &F, curve: Curve) -> Polynomial

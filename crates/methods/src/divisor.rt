@@ -9,6 +9,7 @@ use crate::codes::are_codes;
 use crate::curve::{Curve, sextic};
 use fields::Field;
 use polynomials::{Polynomial, coefficient, degree, difference, divide, is_zero, product};
+use std::error::Error;
 use std::fmt;
 
 // x1·x + x0
@@ -19,7 +20,8 @@ pub struct Linear {
 }
 
 // [u; v; n]: u is monic of this degree, with the lower coefficients given; v has a smaller degree, and coefficients that are
-// not used are 0; n counts the point at infinity where y/x³ is 1.
+// not used are 0; n counts the point at infinity where y/x³ is 1. Degree and single coefficients stand beside each other: a rule
+// of the project, so that a divisor is copied and has no memory of its own.
 #[derive(Clone, Copy, Debug, PartialEq, Eq, Hash)]
 pub struct Divisor {
     pub degree: u8,
@@ -53,6 +55,22 @@ impl DivisorRefusal {
     }
 }
 
+// The condition in words.
+impl fmt::Display for DivisorRefusal {
+    fn fmt<W: fmt::Write>(&self, f: &mut fmt::Formatter<W>) -> fmt::Result {
+        match self {
+            DivisorRefusal::Shape => write!(
+                f,
+                "the degree is above 2, n is above 2 − degree, or an unused coefficient is not 0"
+            ),
+            DivisorRefusal::NotACode => write!(f, "a coefficient is above q − 1"),
+            DivisorRefusal::NotOnCurve => write!(f, "u does not divide f − v²"),
+        }
+    }
+}
+
+impl Error for DivisorRefusal {}
+
 impl Divisor {
     // [1; 0; 1], which is valid on every curve.
     pub fn neutral() -> Divisor
@@ -65,6 +83,18 @@ impl Divisor {
             u: zero,
             v: zero,
             n: 1,
+        }
+    }
+
+    // [x² + u; v; 0]
+    pub fn of_degree_2(u: Linear, v: Linear) -> Divisor
+        ensures { result ≡ record { degree = 2; u = u; v = v; n = 0 } }
+    {
+        Divisor {
+            degree: 2,
+            u,
+            v,
+            n: 0,
         }
     }
 

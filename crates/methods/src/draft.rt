@@ -50,7 +50,8 @@ impl Draft {
         }
     }
 
-    // Sets one of the five coefficients to any number.
+    // Sets one of the five coefficients to any number. A draft has one change, told which coefficient it sets, as the rules of
+    // the calculator have it; so there are no five calls here.
     pub fn change(&mut self, which: Coefficient, value: u32)
         ensures { drafted self.new ≡ changed (drafted self.old) which value }
     {
@@ -64,6 +65,7 @@ impl Draft {
     }
 }
 
+// Written out and not derived: that would need a default curve, and five zeros are none, since no check accepts y² = x⁶.
 impl Default for Draft {
     ghost is_default = { λ draft. drafted draft ≡ record { f4 = 0; f3 = 0; f2 = 0; f1 = 0; f0 = 0 } };
 

@@ -1,4 +1,7 @@
 // Divisor classes of y² = f(x): curves and models, divisors, and methods that add and double them.
+//
+// Every call takes every field, lawful or not. So that a field is lawful stands as a premise in the clauses that need it, and is
+// no invariant of a type.
 #![tactic(auto)]
 
 pub use by_polynomials::ByPolynomials;

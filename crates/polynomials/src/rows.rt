@@ -51,6 +51,7 @@ pub fn derive<F: Field>(field: &F, a: Polynomial) -> Polynomial
 {
     let mut codes = [0; 10];
     let mut n = 0;
+    // By its place and not by `codes.iter_mut()`: outside a plain `for` over it, std's contract tells the row's length alone.
     for (i, &x) in a.codes[1..].iter().enumerate() {
         n = field.sum(1, n);
         codes[i] = field.product(n, x);

@@ -1,11 +1,11 @@
 -- Each turn brings down one coefficient more, as the definition of division does.
 use Rattle.std.proofs.Common.{◌≡◌, ◌<◌, ◌∷◌}
 use Rattle.std.proofs.lemmas.Iterator.Adapters.{YieldsList-from_rev_slice}
-use Rattle.std.proofs.lemmas.Iterator.Consumers.{YieldsList-end, YieldsList-turn}
+use Rattle.std.proofs.lemmas.Iterator.Consumers.{YieldsList-turn}
 use Rattle.fields.specs.Lawful.{Lawful}
 use Rattle.polynomials.specs.Polynomial.{trim, quotient, remainder}
 use Rattle.polynomials.specs.Ten.{value, Is}
-use Rattle.polynomials.proofs.Backwards.{behind, behind-more, behind-all, met_below}
+use Rattle.polynomials.proofs.Backwards.{behind, behind-more, behind-yielded, met_below}
 use Rattle.polynomials.proofs.Coefficients.{Codes, cons_codes}
 use Rattle.polynomials.proofs.LongDivision.{Divided, divided-more}
 use Rattle.polynomials.proofs.Promises.{quotient_is, remainder_is, remainder_lower, divides_whole, divides_by_zero}
@@ -33,8 +33,7 @@ returns g c =
     let a = c.args.a.codes in
     let b = c.args.b.codes in
     let x = c.clean-dividend.result.codes in
-    let all = YieldsList-end (YieldsList-from_rev_slice x cc) c.loop-code.yielded _ c.loop-code.yielded_by _ _ c.in-None.is c.next.ensures.steps in
-    let e : behind c.loop-code.yielded ≡ x = behind-all c.loop-code.yielded x all.0 in
+    let e : behind c.loop-code.yielded ≡ x = behind-yielded c.loop-code.yielded x _ _ _ c.loop-code.yielded_by c.in-None.is c.next.ensures.steps cc in
     let whole : Lawful K → Divided K x (trim c.clean-divisor.result.codes) c.loop-code.q.codes c.loop-code.r.codes =
     λ L. rw e at (c.loop-code.invariant L).1
     in

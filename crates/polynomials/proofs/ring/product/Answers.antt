@@ -1,8 +1,6 @@
 -- Each turn takes one coefficient of the left factor more, as the definition of the product does.
 use Rattle.std.proofs.Common.{◌≡◌}
-use Rattle.std.proofs.lemmas.Iterator.Adapters.{YieldsList-from_rev_slice}
-use Rattle.std.proofs.lemmas.Iterator.Consumers.{YieldsList-end}
-use Rattle.polynomials.proofs.Backwards.{behind, behind-more, behind-all}
+use Rattle.polynomials.proofs.Backwards.{behind, behind-more, behind-yielded}
 use Rattle.polynomials.proofs.Promises.{product_is, product-more}
 use Rattle.polynomials.proofs.ring.product.Goals as goal
 
@@ -15,7 +13,5 @@ loop-code-preserved g c L =
 pub returns : goal.returns
 returns g c L =
     let K = g.F.Field.meaning c.args.field.now in
-    let x = c.clean-left.result.codes in
-    let all = YieldsList-end (YieldsList-from_rev_slice x cc) c.loop-code.yielded _ c.loop-code.yielded_by _ _ c.in-None.is c.next.ensures.steps in
-    let e : behind c.loop-code.yielded ≡ x = behind-all c.loop-code.yielded x all.0 in
+    let e : behind c.loop-code.yielded ≡ c.clean-left.result.codes = behind-yielded c.loop-code.yielded _ _ _ _ c.loop-code.yielded_by c.in-None.is c.next.ensures.steps cc in
     product_is K L c.clean-left.ensures c.clean-right.ensures (rw e at (c.loop-code.invariant L))
