@@ -1,9 +1,10 @@
 -- Where a table could be filled, the residues are a lawful field.
-use Rattle.std.proofs.Common.{◌≡◌, ℕ, zero, suc, ◌+◌, ◌-◌, ◌*◌, ◌%◌, ◌<◌, ◌≤◌, true, ◌&&◌, eqb, leb, ◌≢◌, List, get_or, Some, None, Option, sym, refl, ap, ◌∙◌, subst, mod-eq_of_lt, arith}
+use Rattle.std.proofs.Common.{◌≡◌, ℕ, zero, suc, ◌+◌, ◌-◌, ◌*◌, ◌%◌, ◌<◌, ◌≤◌, true, ◌&&◌, eqb, leb, ◌≢◌, List, get_or, Some, None, Option, Result, sym, refl, ap, ◌∙◌, subst, mod-eq_of_lt, arith}
 use Rattle.std.proofs.lemmas.Bool.{and_parts, leb-true, eqb-true}
 use Rattle.std.proofs.lemmas.List.FromFn.{get_or-map-range_with_len}
 use Rattle.fields.specs.Lawful.{Lawful}
 use Rattle.fields.specs.Residues.{Inverse, inverse_modulo, inverses, residues, residues_by, taken, without_inverse, filled_or, Filled, InversesTold}
+use Rattle.fields.specs.declared.refusal.FieldRefusal.{FieldRefusal}
 use Rattle.fields.proofs.Codes.{Code, code_path}
 use Rattle.fields.proofs.ResidueRing.{ring, ring_laws}
 use Rattle.fields.proofs.Inverses.{answered_least, inverse_is, inverse-below, inverse-none, zero_without, all_good}
@@ -97,12 +98,12 @@ first_told m a bounds e =
     )
 
 -- What filling answers tells of the inverses.
-pub inverses_told : (m : ℕ) → Taken m → InversesTold m (filled_or (without_inverse m))
-inverses_told m bounds = told (without_inverse m) refl
+pub inverses_told : (m : ℕ) (r : Result (Unit {0}) FieldRefusal) → taken m ≡ true → r ≡ filled_or (without_inverse m) → InversesTold m r
+inverses_told m r t is = subst (InversesTold m) (sym is) (told (without_inverse m) refl)
   where
     told : (o : Option ℕ) → without_inverse m ≡ o → InversesTold m (filled_or o)
-    told None e = all_told m bounds e
-    told (Some a) e = first_told m a bounds e
+    told None e = all_told m (taken_bounds m t) e
+    told (Some a) e = first_told m a (taken_bounds m t) e
 
 -- The field on a filled table is that of the residues.
 pub filled_residues : (m : ℕ) (table : List ℕ) → Filled m table → residues_by m table ≡ residues m

@@ -75,7 +75,7 @@ fn entry(table: &[[u8; 9]; 9], a: u32, b: u32) -> u32
     ensures { result ≡ entry_of table.now a b }
 {
     if a < 9 && b < 9 {
-        table[a as usize][b as usize] as u32
+        u32::from(table[a as usize][b as usize])
     } else {
         0
     }

@@ -16,6 +16,7 @@ pub struct Pairs<F: Field> {
 
 impl<F: Field> Pairs<F> {
     // The pairs with t² = r over a field of at most 255 elements; or the field below unaltered, with the refusal.
+    #[tactic(auto, using(crate::proofs::LawfulPairs::root_told))]
     pub fn over(below: F, r: u32) -> Result<Pairs<F>, (F, FieldRefusal)>
         ensures answer { MatchResult result (λ _. pairs_answer (F.Field.meaning below) r ≡ Ok tt) (λ e. pairs_answer (F.Field.meaning below) r ≡ Err e.1) }
         ensures holds { MatchResult result (λ p. (p.below ≡ below) × (p.q ≡ (F.Field.meaning below).size) × (p.r ≡ r)) (λ e. e.0 ≡ below) }
@@ -40,7 +41,7 @@ impl<F: Field> Pairs<F> {
         ensures code { a < self.now.q * self.now.q → result ≡ Some (a % self.now.q, a / self.now.q) }
         ensures outside { self.now.q * self.now.q ≤ a → result ≡ None }
     {
-        let q = self.q as u32;
+        let q = u32::from(self.q);
         (a < q * q).then(|| (a % q, a / q))
     }
 
@@ -48,7 +49,7 @@ impl<F: Field> Pairs<F> {
     fn joined(&self, x: u32, y: u32) -> u32
         ensures { result ≡ join self.now.q x y }
     {
-        let q = self.q as u32;
+        let q = u32::from(self.q);
         if x < q && y < q { x + q * y } else { 0 }
     }
 }
@@ -57,7 +58,7 @@ impl<F: Field> Field for Pairs<F> {
     ghost meaning = { λ p. pairs (F.Field.meaning p.below) p.q p.r };
 
     fn size(&self) -> u32 {
-        self.q as u32 * self.q as u32
+        u32::from(self.q) * u32::from(self.q)
     }
 
     fn sum(&self, a: u32, b: u32) -> u32 {

@@ -1,5 +1,5 @@
 // The residues modulo m, on a table of inverses that the caller lends.
-ghost use Rattle.std.specs.Prelude.{◌≡◌, ◌-◌, ◌*◌, ◌/◌, ◌%◌, ◌<◌, true, length, is_ok, OnOk};
+ghost use Rattle.std.specs.Prelude.{◌≡◌, ◌-◌, ◌*◌, ◌/◌, ◌%◌, ◌<◌, true, length, is_ok, IfOk, OnOk, Ok, Err, MatchResult};
 ghost use Rattle.fields.specs.Lawful.{Lawful};
 ghost use Rattle.fields.specs.Residues.{taken, inverses, without_inverse, residues, residues_by, filled_or, fill_answer, fill_leaves, Filled, InversesTold};
 
@@ -16,6 +16,7 @@ pub struct Residues<'t> {
 impl<'t> Residues<'t> {
     // Puts the inverse of a into entry a of the table, and 0 into entry 0; or refuses, on 2 and 3 with nothing altered, and
     // on 6 with zeros left in the table.
+    #[tactic(auto, using(crate::proofs::LawfulResidues::inverses_told))]
     pub fn fill(m: u16, table: &mut [u16]) -> Result<(), FieldRefusal>
         ensures answer { result ≡ fill_answer m (length table.old) }
         ensures left { table.new ≡ fill_leaves m table.old }
@@ -25,7 +26,7 @@ impl<'t> Residues<'t> {
         if m % 2 == 0 || !(3..=8191).contains(&m) {
             return Err(FieldRefusal::Modulus);
         }
-        if table.len() != m as usize {
+        if table.len() != usize::from(m) {
             return Err(FieldRefusal::TableLength);
         }
         let filled = invert_codes(m, table);
@@ -33,6 +34,16 @@ impl<'t> Residues<'t> {
             table.fill(0);
         }
         filled
+    }
+
+    // The field on a table that is filled here for m: the residues modulo m; or why it was not filled.
+    pub fn filled(m: u16, table: &'t mut [u16]) -> Result<Residues<'t>, FieldRefusal>
+        ensures answer { MatchResult result (λ _. fill_answer m (length table.old) ≡ Ok tt) (λ e. fill_answer m (length table.old) ≡ Err e) }
+        ensures meaning { IfOk result (λ f. residues_by f.modulus f.inverses.now ≡ residues m) }
+        ensures lawful { IfOk result (λ f. Lawful (residues_by f.modulus f.inverses.now)) }
+    {
+        Residues::fill(m, table)?;
+        Ok(Residues::on(m, table))
     }
 
     // The field on a table that was filled for m: the residues modulo m.
@@ -53,27 +64,27 @@ impl Field for Residues<'_> {
     ghost meaning = { λ f. residues_by f.modulus f.inverses.now };
 
     fn size(&self) -> u32 {
-        self.modulus as u32
+        u32::from(self.modulus)
     }
 
     fn sum(&self, a: u32, b: u32) -> u32 {
-        let m = self.modulus as u32;
+        let m = u32::from(self.modulus);
         if a < m && b < m { (a + b) % m } else { 0 }
     }
 
     fn product(&self, a: u32, b: u32) -> u32 {
-        let m = self.modulus as u32;
+        let m = u32::from(self.modulus);
         if a < m && b < m { (a * b) % m } else { 0 }
     }
 
     fn negative(&self, a: u32) -> u32 {
-        let m = self.modulus as u32;
+        let m = u32::from(self.modulus);
         if a < m { (m - a) % m } else { 0 }
     }
 
     fn inverse(&self, a: u32) -> u32 {
         match self.inverses.get(a as usize) {
-            Some(&b) if a < self.modulus as u32 => b as u32,
+            Some(&b) if a < u32::from(self.modulus) => u32::from(b),
             _ => 0,
         }
     }
@@ -96,8 +107,8 @@ fn invert_codes(m: u16, table: &mut [u16]) -> Result<(), FieldRefusal>
         if rest == 0 {
             return Err(FieldRefusal::NoInverse(a));
         }
-        let back = table[rest as usize];
-        table[a as usize] = opposite(m, m / a, back);
+        let back = table[usize::from(rest)];
+        table[usize::from(a)] = opposite(m, m / a, back);
     }
     Ok(())
 }
@@ -107,6 +118,7 @@ fn opposite(m: u16, a: u16, b: u16) -> u16
     requires { 0 < m }
     ensures { result ≡ (m - (a * b) % m) % m }
 {
-    let product = (a as u32 * b as u32) % m as u32;
-    ((m as u32 - product) % m as u32) as u16
+    let modulus = u32::from(m);
+    let product = u32::from(a) * u32::from(b) % modulus;
+    ((modulus - product) % modulus) as u16
 }

@@ -7,54 +7,36 @@ mod tests {
     use fields::{Field, FieldRefusal, Nine, Pairs, Residues};
     use std::test::Fail;
 
+    // What filling a table of N nines for m answers, with the number of a refusal, and what it leaves of the table.
+    fn filled<const N: usize>(m: u16) -> (Result<(), u8>, [u16; N]) {
+        let mut table = [9; N];
+        let answer = Residues::fill(m, &mut table).map_err(FieldRefusal::number);
+        (answer, table)
+    }
+
     #[test]
     fn a_short_table_is_refused_and_left(rt: HostRuntime) {
-        let mut table = [9; 6];
-        assert_eq!(rt;
-            Residues::fill(7, &mut table).map_err(FieldRefusal::number),
-            Err(3)
-        );
-        assert_eq!(rt; table, [9; 6]);
+        assert_eq!(rt; filled::<6>(7), (Err(3), [9; 6]));
     }
 
     #[test]
     fn a_long_table_is_refused_and_left(rt: HostRuntime) {
-        let mut table = [9; 8];
-        assert_eq!(rt;
-            Residues::fill(7, &mut table).map_err(FieldRefusal::number),
-            Err(3)
-        );
-        assert_eq!(rt; table, [9; 8]);
+        assert_eq!(rt; filled::<8>(7), (Err(3), [9; 8]));
     }
 
     #[test]
     fn the_modulus_is_looked_at_before_the_table(rt: HostRuntime) {
-        let mut table = [9; 6];
-        assert_eq!(rt;
-            Residues::fill(8, &mut table).map_err(FieldRefusal::number),
-            Err(2)
-        );
-        assert_eq!(rt; table, [9; 6]);
+        assert_eq!(rt; filled::<6>(8), (Err(2), [9; 6]));
     }
 
     #[test]
     fn a_code_without_inverse_leaves_zeros(rt: HostRuntime) {
-        let mut table = [9; 9];
-        assert_eq!(rt;
-            Residues::fill(9, &mut table).map_err(FieldRefusal::number),
-            Err(6)
-        );
-        assert_eq!(rt; table, [0; 9]);
+        assert_eq!(rt; filled::<9>(9), (Err(6), [0; 9]));
     }
 
     #[test]
     fn the_table_has_the_inverses(rt: HostRuntime) {
-        let mut table = [9; 7];
-        assert_eq!(rt;
-            Residues::fill(7, &mut table).map_err(FieldRefusal::number),
-            Ok(())
-        );
-        assert_eq!(rt; table, [0, 1, 4, 5, 2, 3, 6]);
+        assert_eq!(rt; filled::<7>(7), (Ok(()), [0, 1, 4, 5, 2, 3, 6]));
     }
 
     #[test]

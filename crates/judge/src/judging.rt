@@ -1,14 +1,13 @@
 // Makes the field that is asked for, and judges it.
-ghost use Rattle.std.specs.Prelude.{◌≡◌, length, IfOk, Ok, Err, MatchResult};
+ghost use Rattle.std.specs.Prelude.{◌≡◌, IfOk, Ok, Err, MatchResult};
 ghost use Rattle.fields.specs.Lawful.{Lawful};
 ghost use Rattle.fields.specs.Pairs.{pairs as pairs_over};
-ghost use Rattle.fields.specs.Residues.{residues as residues_modulo, residues_by, fill_answer};
 ghost use Rattle.judge.specs.Verdict.{base_asked, over, pairs_asked, tower_asked, Judges};
 
 use crate::report::examine;
 use crate::request::{Base, Request, Tower};
 use crate::verdict::{NoField, Verdict};
-use fields::{Field, FieldRefusal, Nine, Pairs, Residues};
+use fields::{Field, Nine, Pairs, Residues};
 use std::alloc::{AllocError, Global};
 
 // The verdict on a request: a report on the field, which is lawful, or the refusal that the rules of its making have for it.
@@ -18,20 +17,11 @@ pub fn judge(heap: Global, request: Request) -> Result<Verdict, AllocError>
     match request.base {
         Base::Nine => Ok(judge_tower(Nine::new(), request.tower)),
         Base::Residues(m) => {
-            let mut table = vec![in heap; 0; m as usize]?;
-            let field = residues(m, table.as_mut_slice()).map_err(NoField::NoBase);
+            let mut table = vec![in heap; 0; usize::from(m)]?;
+            let field = Residues::filled(m, table.as_mut_slice()).map_err(NoField::NoBase);
             Ok(field.and_then(|field| judge_tower(field, request.tower)))
         }
     }
-}
-
-// The residues modulo m on a table that is filled for them: a lawful field.
-fn residues(m: u16, table: &mut [u16]) -> Result<Residues<'_>, FieldRefusal>
-    ensures answer { MatchResult result (λ _. fill_answer m (length table.old) ≡ Ok tt) (λ e. fill_answer m (length table.old) ≡ Err e) }
-    ensures lawful { IfOk result (λ f. (residues_by f.modulus f.inverses.now ≡ residues_modulo m) × Lawful (residues_by f.modulus f.inverses.now)) }
-{
-    Residues::fill(m, table)?;
-    Ok(Residues::on(m, table))
 }
 
 // The verdict on what is built on a lawful field.

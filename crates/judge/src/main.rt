@@ -5,7 +5,7 @@
 use judging::judge;
 use request::Request;
 use std::io;
-use std::io::Input;
+use std::io::{BufRead, BufReader};
 
 mod judging;
 mod report;
@@ -13,7 +13,9 @@ mod request;
 mod verdict;
 
 fn main(rt: HostRuntime) -> io::Result<()> {
-    for line in rt.lines(rt.alloc()) {
+    // The reader has a buffer, since `rt.lines` reads a pipe a byte at a time. A line that is no text gets an answer here and
+    // does not end the program, as it would in the loop of `notation`.
+    for line in BufReader::new(rt.alloc(), rt.stdin())?.lines(rt.alloc()) {
         match line {
             Ok(text) => answer(&rt, text.as_str().trim())?,
             Err(e) if e.kind() == io::ErrorKind::InvalidData => println!(rt; "bad line: no text")?,

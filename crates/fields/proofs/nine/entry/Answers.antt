@@ -1,3 +1,4 @@
+-- Two codes have an entry, and other numbers have 0.
 use Rattle.std.proofs.Common.{rules}
 use Rattle.fields.specs.Nine.{entry_of}
 use Rattle.fields.proofs.nine.entry.Goals as goal

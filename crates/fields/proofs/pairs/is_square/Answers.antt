@@ -1,3 +1,4 @@
+-- A search through all codes below n, as the definition is.
 use Rattle.std.proofs.Common.{eqb, refl, ◌∙◌, arith, rules, tests}
 use Rattle.std.proofs.lemmas.Iterator.{YieldsList-from_range}
 use Rattle.std.proofs.lemmas.Iterator.Search.{any_from_yields_List}

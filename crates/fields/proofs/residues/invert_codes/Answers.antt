@@ -1,4 +1,5 @@
-use Rattle.std.proofs.Common.{◌≡◌, ◌+◌, length, set, sym, ap, ◌∙◌, subst, arith, length-set}
+-- The entries by codes: a code that divides m has no inverse, and any other has its inverse from an earlier entry.
+use Rattle.std.proofs.Common.{◌≡◌, length, sym, ap, ◌∙◌, subst, arith, length-set}
 use Rattle.fields.specs.Residues.{filled_or}
 use Rattle.fields.proofs.LawfulResidues.{Taken, taken_bounds}
 use Rattle.fields.proofs.Filling.{Inverted, inverted_two, inverted_next, inverted_stuck, inverted_all, inverted_table}
@@ -15,9 +16,9 @@ returns-then-rest-eq0-clause-answer c =
 pub loop-a-preserved : goal.loop-a-preserved
 loop-a-preserved c =
     let long : length c.loop-a.table ≡ c.args.m = c.loop-a.auto.table ∙ simp length-set c.requires.entries in
-    subst (λ v. Inverted c.args.m (set c.loop-a.table c.loop-a.a v) (c.loop-a.a + 1)) (sym c.opposite.ensures)
+    rw c.from-in-loop-a.ensures (rw c.opposite.ensures (rw c.from.ensures
     (inverted_next c.args.m (taken_bounds c.args.m c.requires.modulus) c.loop-a.table c.loop-a.a (omega arith)
-    c.loop-a-test.true long c.if-rest-eq0.false c.loop-a.invariant)
+    c.loop-a-test.true long c.if-rest-eq0.false c.loop-a.invariant)))
 
 pub returns : goal.returns
 returns c =

@@ -1,3 +1,4 @@
+-- Each entry below a is the inverse of its code.
 use Rattle.fields.proofs.Filling.{Inverted}
 use Rattle.fields.proofs.residues.invert_codes.Given as goal
 

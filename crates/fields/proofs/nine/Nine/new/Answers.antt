@@ -1,3 +1,4 @@
+-- The field of nine elements is lawful.
 use Rattle.fields.proofs.LawfulNine.{nine_lawful}
 use Rattle.fields.proofs.nine.Nine.new.Goals as goal
 

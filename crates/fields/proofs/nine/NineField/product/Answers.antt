@@ -1,3 +1,4 @@
+-- The second table has the products.
 use Rattle.std.proofs.Common.{◌∙◌}
 use Rattle.fields.proofs.LawfulNine.{product_table}
 use Rattle.fields.proofs.nine.NineField.product.Goals as goal

@@ -1,3 +1,4 @@
+-- The first table has the sums.
 use Rattle.std.proofs.Common.{◌∙◌}
 use Rattle.fields.proofs.LawfulNine.{sum_table}
 use Rattle.fields.proofs.nine.NineField.sum.Goals as goal

@@ -1,3 +1,4 @@
+-- On a filled table the field is that of the residues, which is lawful.
 use Rattle.std.proofs.Common.{refl}
 use Rattle.fields.proofs.LawfulResidues.{filled_residues, filled_lawful}
 use Rattle.fields.proofs.residues.Residues.on.Goals as goal
