@@ -89,10 +89,10 @@ pub fn over<T: FieldTask + Drop>(rt: &HostRuntime, named: Named, task: T) -> io:
         Named::Pairs(m, r) => (m, Some(r)),
     };
     let mut table = vec![in rt.alloc(); 0; usize::from(m)]?;
-    if let Err(refusal) = Residues::fill(m, table.as_mut_slice()) {
-        return T::refuse(rt, refusal);
-    }
-    let residues = Residues::on(m, table.as_slice());
+    let residues = match Residues::filled(m, table.as_mut_slice()) {
+        Ok(residues) => residues,
+        Err(refusal) => return T::refuse(rt, refusal),
+    };
     let Some(r) = r else {
         return task.run(rt, residues);
     };
