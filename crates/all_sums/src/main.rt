@@ -3,7 +3,7 @@
 // fields of a few elements. Empty lines and lines that begin with # are passed over.
 #![tactic(auto)]
 
-use notation::{Named, each_trimmed_line, over};
+use notation::{each_trimmed_line, on_curve, over};
 use std::io;
 use sums::AllSums;
 
@@ -18,15 +18,8 @@ fn main(rt: HostRuntime) -> io::Result<()> {
 }
 
 fn answer(rt: &HostRuntime, text: &str) -> io::Result<()> {
-    match parse(text) {
-        Some((field, sums)) => over(rt, field, sums),
+    match on_curve(text) {
+        Some((field, curve)) => over(rt, field, AllSums { curve }),
         None => println!(rt; "bad line"),
     }
-}
-
-// A field and the sums of a curve.
-fn parse(text: &str) -> Option<(Named, AllSums)> {
-    let (field, curve) = text.split_once('|')?;
-    let curve = notation::curve(curve)?;
-    Some((field.parse().ok()?, AllSums { curve }))
 }

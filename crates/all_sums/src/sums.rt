@@ -2,8 +2,8 @@
 use crate::divisors::valid_divisors;
 use closed_formulas::Closed;
 use fields::Field;
-use methods::{ByPolynomials, Curve, Divisor, DivisorRefusal, Draft, Method, Model};
-use notation::FieldTask;
+use methods::{ByPolynomials, Curve, Divisor, DivisorRefusal, Method, Model};
+use notation::{FieldTask, model};
 use std::io;
 
 // The sums and doubles of a curve.
@@ -14,14 +14,15 @@ pub struct AllSums {
 
 impl FieldTask for AllSums {
     fn run<F: Field + Drop>(self, rt: &HostRuntime, field: F) -> io::Result<()> {
-        match Model::check(field, Draft::from(self.curve)) {
-            Ok(model) => compare_all(rt, &model),
-            Err((_, _, refusal)) => println!(rt; "curve refused {}", refusal.number()),
+        match model(rt, field, self.curve)? {
+            Some(model) => compare_all(rt, &model),
+            None => Ok(()),
         }
     }
 }
 
-// How many sums and doubles there are, and how many of them differ.
+// How many sums and doubles there are, and how many of them differ. The sums are counted row by row, and the rows are added up
+// saturating, since it is not known that the square of the number of divisors is below 2⁶⁴.
 fn compare_all<F: Field>(rt: &HostRuntime, model: &Model<F>) -> io::Result<()> {
     let (field, curve) = (model.field(), model.curve());
     let all = valid_divisors(rt.alloc(), model)?;

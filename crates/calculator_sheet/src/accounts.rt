@@ -4,24 +4,23 @@ use fields::Field;
 use indexmap::IndexMap;
 use methods::{Divisor, Model, entered, negative};
 use std::alloc::{AllocError, Global};
+use std::array;
 
 // How often each divisor stands in an account, in the order in which they came; counts above 2⁶⁴ − 1 are not told apart.
 pub type Account = IndexMap<Divisor, u64>;
 
 // The account of each register.
-#[derive(Drop)]
+#[derive(Debug, Drop)]
 pub struct Accounts {
-    pub of: Vec<Account>,
+    pub of: [Account; 16],
 }
 
 impl Accounts {
     // Sixteen empty accounts.
-    pub fn new(heap: Global) -> Result<Accounts, AllocError> {
-        let mut of = Vec::new(heap);
-        for _ in 0..16 {
-            of.push(IndexMap::new(heap))?;
+    pub fn new(heap: Global) -> Accounts {
+        Accounts {
+            of: array::from_fn(|_| IndexMap::new(heap)),
         }
-        Ok(Accounts { of })
     }
 
     // Draws up the account of a call's target, from the call, the field and the curve alone. A refused call changes none.
@@ -78,7 +77,8 @@ impl Accounts {
     }
 }
 
-// Whether a call is accepted: its registers are 15 at most, and a divisor that it enters is valid.
+// Whether a call is accepted: its registers are 15 at most, and a divisor that it enters is valid. Written apart from the
+// calculator, so that the accounts are drawn from the call, the field and the curve alone.
 fn accepted<F: Field>(model: &Model<F>, call: Call) -> bool {
     match call {
         Call::Enter(target, divisor) => {

@@ -1,7 +1,7 @@
 // A list of calls, and how it is read.
 use calculator::{Call, Comparison};
 use methods::Curve;
-use notation::{Named, divisor, row};
+use notation::{Named, divisor, on_curve, row};
 use std::alloc::{AllocError, Global};
 
 // A field, a curve that is not checked yet, and calls with places for the answers of two calculators.
@@ -15,10 +15,10 @@ pub struct List {
 impl List {
     // The list that begins with `FIELD | f4 f3 f2 f1 f0`.
     pub fn parse(heap: Global, text: &str) -> Option<List> {
-        let (field, curve) = text.split_once('|')?;
+        let (field, curve) = on_curve(text)?;
         Some(List {
-            field: field.parse().ok()?,
-            curve: notation::curve(curve)?,
+            field,
+            curve,
             calls: Vec::new(heap),
         })
     }
@@ -38,22 +38,10 @@ impl List {
 pub fn parse_call(text: &str) -> Option<Call> {
     let (name, rest) = text.split_once(' ')?;
     match name {
-        "show" => {
-            let [register] = row::<u8, 1>(rest)?;
-            Some(Call::Show(register))
-        }
-        "double" => {
-            let [target, a] = row::<u8, 2>(rest)?;
-            Some(Call::Double(target, a))
-        }
-        "negate" => {
-            let [target, a] = row::<u8, 2>(rest)?;
-            Some(Call::Negate(target, a))
-        }
-        "add" => {
-            let [target, a, b] = row::<u8, 3>(rest)?;
-            Some(Call::Add(target, a, b))
-        }
+        "show" => row::<u8, 1>(rest).map(|[register]| Call::Show(register)),
+        "double" => row::<u8, 2>(rest).map(|[target, a]| Call::Double(target, a)),
+        "negate" => row::<u8, 2>(rest).map(|[target, a]| Call::Negate(target, a)),
+        "add" => row::<u8, 3>(rest).map(|[target, a, b]| Call::Add(target, a, b)),
         "enter" => {
             let (target, numbers) = rest.trim_start().split_once(char::is_whitespace)?;
             Some(Call::Enter(target.parse().ok()?, divisor(numbers)?))

@@ -4,21 +4,19 @@ use crate::list::List;
 use calculator::{Answer, Calculator, Comparison, agree};
 use closed_formulas::Closed;
 use fields::{Field, FieldRefusal};
-use methods::{ByPolynomials, Divisor, Draft, Model};
-use notation::FieldTask;
+use methods::{ByPolynomials, Divisor, Model};
+use notation::{FieldTask, model};
 use std::io;
 
 impl FieldTask for List {
     // Makes the models of the two calculators on one field, or prints why the curve is refused.
     fn run<F: Field + Drop>(self, rt: &HostRuntime, field: F) -> io::Result<()> {
-        match (
-            Model::check(&field, Draft::from(self.curve)),
-            Model::check(&field, Draft::from(self.curve)),
-        ) {
-            (Ok(first), Ok(second)) => exchange(rt, first, second, self.calls),
-            (Err((_, _, refusal)), _) | (_, Err((_, _, refusal))) => {
-                println!(rt; "curve refused {}", refusal.number())
-            }
+        let Some(first) = model(rt, &field, self.curve)? else {
+            return Ok(());
+        };
+        match model(rt, &field, self.curve)? {
+            Some(second) => exchange(rt, first, second, self.calls),
+            None => Ok(()),
         }
     }
 
@@ -34,7 +32,7 @@ fn exchange<F: Field + Drop>(
     second: Model<F>,
     mut calls: Vec<Comparison>,
 ) -> io::Result<()> {
-    let mut accounts = Accounts::new(rt.alloc())?;
+    let mut accounts = Accounts::new(rt.alloc());
     for comparison in &calls {
         accounts.draw(rt.alloc(), &first, comparison.call)?;
     }

@@ -31,7 +31,8 @@ fn answer(rt: &HostRuntime, text: &str) -> io::Result<()> {
     }
 }
 
-// The four parts of a line `FIELD | CURVE | D | E`.
+// The four parts of a line `FIELD | CURVE | D | E`. No function for any number of parts: the borrow checker covers no array of
+// references whose length is a const parameter.
 fn parts(text: &str) -> Option<(&str, &str, &str, &str)> {
     let (field, rest) = text.split_once('|')?;
     let (curve, rest) = rest.split_once('|')?;

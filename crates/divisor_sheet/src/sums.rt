@@ -1,9 +1,7 @@
 // What is printed for a curve and two divisors, over any field.
 use fields::Field;
-use methods::{
-    ByPolynomials, Curve, Divisor, DivisorRefusal, Draft, Method, Model, entered, negative,
-};
-use notation::FieldTask;
+use methods::{ByPolynomials, Curve, Divisor, DivisorRefusal, Method, Model, entered, negative};
+use notation::{FieldTask, model};
 use std::{fmt, io};
 
 // A curve that is not checked yet, and two divisors.
@@ -27,9 +25,9 @@ impl Sums {
 
 impl FieldTask for Sums {
     fn run<F: Field + Drop>(self, rt: &HostRuntime, field: F) -> io::Result<()> {
-        match Model::check(field, Draft::from(self.curve)) {
-            Ok(model) => report(rt, &model, self.first, self.second),
-            Err((_, _, refusal)) => println!(rt; "curve refused {}", refusal.number()),
+        match model(rt, field, self.curve)? {
+            Some(model) => report(rt, &model, self.first, self.second),
+            None => Ok(()),
         }
     }
 }

@@ -3,7 +3,8 @@ use std::io;
 use std::io::{BufRead, BufReader};
 
 // Calls f with each line of standard input but for blank lines and lines that begin with #. The reader has a buffer, since
-// `rt.lines` reads a pipe a byte at a time.
+// `rt.lines` reads a pipe a byte at a time. No clause tells the result, here and below: input and output are outside of what is
+// stated, and the stored runs of the programs show that they succeed.
 pub fn each_line<F: FnMut(&str) -> io::Result<()>>(rt: &HostRuntime, mut f: F) -> io::Result<()>
     requires { F.IsAlwaysCallable f }
 {

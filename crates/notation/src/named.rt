@@ -15,6 +15,11 @@ pub enum Named {
 
 // A field's name, as it is read.
 impl fmt::Display for Named {
+    ghost use Rattle.std.specs.Prelude.{Some};
+    ghost use Rattle.notation.specs.Names.{field_text};
+
+    ghost output = { λ named. Some (field_text named) };
+
     fn fmt<W: fmt::Write>(&self, f: &mut fmt::Formatter<W>) -> fmt::Result {
         match *self {
             Named::Residues(m) => write!(f, "residues {m}"),
@@ -29,6 +34,10 @@ impl fmt::Display for Named {
 pub struct NotAField;
 
 impl fmt::Display for NotAField {
+    ghost use Rattle.std.specs.Prelude.{Some, codes};
+
+    ghost output = { λ _. Some (codes "a field is residues M, nine or pairs M R") };
+
     fn fmt<W: fmt::Write>(&self, f: &mut fmt::Formatter<W>) -> fmt::Result {
         write!(f, "a field is residues M, nine or pairs M R")
     }
@@ -36,6 +45,7 @@ impl fmt::Display for NotAField {
 
 impl Error for NotAField {}
 
+// No clause tells what comes out: the type has one value.
 impl From<ParseIntError> for NotAField {
     fn from(_: ParseIntError) -> NotAField {
         NotAField
@@ -65,7 +75,7 @@ impl FromStr for Named {
 pub trait FieldTask: Sized {
     fn run<F: Field + Drop>(self, rt: &HostRuntime, field: F) -> io::Result<()>;
 
-    // Prints why there is no such field.
+    // Prints why there is no such field. What a call prints has no contract.
     fn refuse(rt: &HostRuntime, refusal: FieldRefusal) -> io::Result<()> {
         println!(rt; "refused: {refusal}")
     }
@@ -79,10 +89,10 @@ pub fn over<T: FieldTask + Drop>(rt: &HostRuntime, named: Named, task: T) -> io:
         Named::Pairs(m, r) => (m, Some(r)),
     };
     let mut table = vec![in rt.alloc(); 0; usize::from(m)]?;
-    if let Err(refusal) = Residues::fill(m, table.as_mut_slice()) {
-        return T::refuse(rt, refusal);
-    }
-    let residues = Residues::on(m, table.as_slice());
+    let residues = match Residues::filled(m, table.as_mut_slice()) {
+        Ok(residues) => residues,
+        Err(refusal) => return T::refuse(rt, refusal),
+    };
     let Some(r) = r else {
         return task.run(rt, residues);
     };

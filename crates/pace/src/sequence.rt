@@ -1,13 +1,16 @@
 // The sequence over a field, by either method.
 use closed_formulas::Closed;
 use fields::Field;
-use methods::{ByPolynomials, Curve, Divisor, DivisorRefusal, Draft, Method, Model};
-use notation::FieldTask;
+use methods::{ByPolynomials, Curve, Divisor, DivisorRefusal, Method, Model};
+use notation::{FieldTask, model};
 use std::io;
 use std::time::{Duration, Instant};
 
+// How many sums a sequence has where no number is asked for.
+const SHORT: u32 = 1000;
+
 // A curve, the two divisors that a sequence begins with, and how many sums are asked for. They are timed then; where no number is
-// asked for, there are 1,000 sums, and no time is taken.
+// asked for, the sequence is short, and no time is taken.
 #[derive(Clone, Copy, Debug, PartialEq, Eq)]
 pub struct Sequence {
     pub curve: Curve,
@@ -18,13 +21,11 @@ pub struct Sequence {
 
 impl FieldTask for Sequence {
     fn run<F: Field + Drop>(self, rt: &HostRuntime, field: F) -> io::Result<()> {
-        match Model::check(field, Draft::from(self.curve)) {
-            Ok(model) => {
-                one_method::<F, Closed<ByPolynomials>>(rt, "closed formulas", &model, self)?;
-                one_method::<F, ByPolynomials>(rt, "polynomials", &model, self)
-            }
-            Err((_, _, refusal)) => println!(rt; "curve refused {}", refusal.number()),
-        }
+        let Some(model) = model(rt, field, self.curve)? else {
+            return Ok(());
+        };
+        one_method::<F, Closed<ByPolynomials>>(rt, "closed formulas", &model, self)?;
+        one_method::<F, ByPolynomials>(rt, "polynomials", &model, self)
     }
 }
 
@@ -64,7 +65,7 @@ fn fibonacci<F: Field, M: Method<F>>(
     sequence: Sequence,
 ) -> Result<Divisor, DivisorRefusal> {
     let (mut before, mut last) = (sequence.first, sequence.second);
-    for _ in 0..sequence.asked.unwrap_or(1000) {
+    for _ in 0..sequence.asked.unwrap_or(SHORT) {
         (before, last) = (last, M::add(field, curve, before, last)?);
     }
     Ok(last)

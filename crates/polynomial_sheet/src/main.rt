@@ -32,7 +32,8 @@ fn answer(rt: &HostRuntime, text: &str) -> io::Result<()> {
     }
 }
 
-// The three parts of a line `FIELD | A | B`.
+// The three parts of a line `FIELD | A | B`. No function for any number of parts: the borrow checker covers no array of references
+// whose length is a const parameter.
 fn sides(text: &str) -> Option<(&str, &str, &str)> {
     let (field, rest) = text.split_once('|')?;
     let (a, b) = rest.split_once('|')?;

@@ -13,10 +13,12 @@ impl Case {
     pub fn parse(heap: Global, text: &str) -> Result<Option<Case>, AllocError> {
         let (room, digits) = match text.split_once(':') {
             None => (24576, text),
-            Some((number, digits)) => match number.parse::<u16>() {
-                Ok(room) => (usize::from(room), digits),
-                Err(_) => return Ok(None),
-            },
+            Some((number, digits)) => {
+                let Ok(room) = number.parse::<u16>() else {
+                    return Ok(None);
+                };
+                (usize::from(room), digits)
+            }
         };
         let digits = digits.trim();
         let mut sheet = vec![in heap; 0; digits.len() / 2]?;

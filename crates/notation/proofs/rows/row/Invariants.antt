@@ -1,3 +1,4 @@
+-- The loop of `row`: words are read for the places one after another.
 use Rattle.std.proofs.Common.{◌≤◌, length, ◌+◌}
 use Rattle.notation.proofs.rows.row.Given as goal
 
