@@ -1,4 +1,4 @@
-// Records, read from the front of a sheet.
+// Records, read from the front of a sheet. The kinds are the bytes of the sheet's format, and are read by slice patterns.
 ghost use Rattle.std.specs.Prelude.{◌≡◌, ◌+◌, ◌*◌, ◌/◌, ◌%◌, length};
 ghost use Rattle.std.specs.Iterator.{at_most};
 ghost use Rattle.run.specs.Bytes.{curve_at, divisor_at, divisor_bytes};
@@ -7,9 +7,11 @@ ghost use Rattle.run.specs.Meanings.{called_by, said_by, read_as, NextRecord};
 
 use calculator::Call;
 use methods::{Curve, Divisor, Linear};
+use std::error::Error;
+use std::fmt;
 
 // A record, whose bodies of a curve and of a divisor are parts of the sheet.
-#[derive(Clone, Copy, Debug, PartialEq, Eq)]
+#[derive(Clone, Copy, Debug, PartialEq, Eq, Hash)]
 pub enum Record<'s> {
     Residues(u16),
     Nine,
@@ -18,8 +20,9 @@ pub enum Record<'s> {
     Call(CallRecord<'s>),
 }
 
-// A record that calls the calculator.
-#[derive(Clone, Copy, Debug, PartialEq, Eq)]
+// A record that calls the calculator: the calls of the calculator, with the ten bytes on the sheet for the divisor of Enter. A type
+// of its own, since a type parameter on each mention of `Call` would be no plainer.
+#[derive(Clone, Copy, Debug, PartialEq, Eq, Hash)]
 pub enum CallRecord<'s> {
     // register, divisor
     Enter(u8, &'s [u8; 10]),
@@ -85,6 +88,18 @@ pub enum Unreadable {
     Unknown(u8),
 }
 
+// What stands there in words.
+impl fmt::Display for Unreadable {
+    fn fmt<W: fmt::Write>(&self, f: &mut fmt::Formatter<W>) -> fmt::Result {
+        match self {
+            Unreadable::Short(kind) => write!(f, "the sheet ends inside a record of kind {kind}"),
+            Unreadable::Unknown(kind) => write!(f, "the kind {kind} of a record is unknown"),
+        }
+    }
+}
+
+impl Error for Unreadable {}
+
 // The first record of the sheet and the rest, if any byte is left.
 pub fn read<'s>(sheet: &'s [u8]) -> Result<Option<(Record<'s>, &'s [u8])>, Unreadable>
     ensures { read_as result ≡ reading sheet.now }
@@ -116,7 +131,7 @@ pub fn read<'s>(sheet: &'s [u8]) -> Result<Option<(Record<'s>, &'s [u8])>, Unrea
 }
 
 // The records of a sheet, one after another. Where the sheet has no whole record more but bytes, the last item says why.
-#[derive(Clone, Copy)]
+#[derive(Clone, Copy, Debug)]
 pub(crate) struct Records<'s> {
     pub(crate) rest: &'s [u8],
 }
