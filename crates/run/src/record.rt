@@ -1,8 +1,9 @@
 // Records, read from the front of a sheet. The kinds are the bytes of the sheet's format, and are read by slice patterns.
-ghost use Rattle.std.specs.Prelude.{◌≡◌, ◌+◌, ◌*◌, ◌/◌, ◌%◌, length};
+ghost use Rattle.std.specs.Prelude.{◌≡◌, ◌+◌, ◌*◌, ◌/◌, ◌%◌, ◌<◌, ◌≤◌, length, take, drop, MatchResult};
 ghost use Rattle.std.specs.Iterator.{at_most};
 ghost use Rattle.run.specs.Bytes.{curve_at, divisor_at, divisor_bytes};
 ghost use Rattle.run.specs.Records.{kind_of_call, kind_of, reading};
+ghost use Rattle.run.specs.declared.record.Unreadable.TheVariants.{Short};
 ghost use Rattle.run.specs.Meanings.{called_by, said_by, read_as, NextRecord};
 
 use calculator::Call;
@@ -114,11 +115,11 @@ pub fn read<'s>(sheet: &'s [u8]) -> Result<Option<(Record<'s>, &'s [u8])>, Unrea
             Ok(Some((Record::Pairs(u16::from_le_bytes([*low, *high])), rest)))
         }
         [4, rest @ ..] => {
-            let (body, rest) = rest.split_first_chunk::<10>().ok_or(Unreadable::Short(4))?;
+            let (body, rest) = body(rest, 4)?;
             Ok(Some((Record::Curve(body), rest)))
         }
         [5, t, rest @ ..] => {
-            let (body, rest) = rest.split_first_chunk::<10>().ok_or(Unreadable::Short(5))?;
+            let (body, rest) = body(rest, 5)?;
             Ok(Some((Record::Call(CallRecord::Enter(*t, body)), rest)))
         }
         [6, t, a, b, rest @ ..] => Ok(Some((Record::Call(CallRecord::Add(*t, *a, *b)), rest))),
@@ -128,6 +129,13 @@ pub fn read<'s>(sheet: &'s [u8]) -> Result<Option<(Record<'s>, &'s [u8])>, Unrea
         [kind @ 1..=9, ..] => Err(Unreadable::Short(*kind)),
         [kind, ..] => Err(Unreadable::Unknown(*kind)),
     }
+}
+
+// The ten bytes of a curve or a divisor, and the rest behind them, of a record of this kind.
+fn body<'s>(rest: &'s [u8], kind: u8) -> Result<(&'s [u8; 10], &'s [u8]), Unreadable>
+    ensures { MatchResult result (λ b. (b.0.now ≡ take 10 rest.now) × (b.1.now ≡ drop 10 rest.now) × 10 ≤ length rest.now) (λ why. (why ≡ Short kind) × length rest.now < 10) }
+{
+    rest.split_first_chunk::<10>().ok_or(Unreadable::Short(kind))
 }
 
 // The records of a sheet, one after another. Where the sheet has no whole record more but bytes, the last item says why.

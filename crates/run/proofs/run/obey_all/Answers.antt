@@ -5,19 +5,24 @@ use Rattle.run.specs.Progress.{reply_bytes}
 use Rattle.run.specs.Stages.{progress_at}
 use Rattle.run.proofs.Buffers.{length-overwritten}
 use Rattle.run.proofs.Running.{Fits, Turned, whole_fits, unread_fits, whole_turned, unread_turned, running_on, running_end}
+use Rattle.run.proofs.run.obey_all.Given.{Over}
 use Rattle.run.proofs.run.obey_all.Goals as goal
-use Rattle.run.proofs.run.obey_all.Goals.{in-Ok, in-Err}
+use Rattle.run.proofs.run.obey_all.Goals.{Joined-record, in-Ok, in-Err}
 
-pub write-requires : goal.write-requires
-write-requires g c =
+-- The reply to an item of the sheet fits the output.
+reply_fits : (g : Over) (c : Joined-record g) → Fits c.loop-record.record-iterator.rest.now c.match-record.next.1 c.next.new.self.rest.now
+reply_fits g c =
     let s : Records = c.loop-record.record-iterator in
     let t : Records = c.next.new.self in
     let gives : NextRecord s (Some c.in-Some.record) t = c.in-Some.ensures.steps in
-    let fits : Fits s.rest.now c.match-record.next.1 t.rest.now =
     elim c.match-record.branch [
       | in-Ok w ↦ rw w.next-is (whole_fits s t _ gives _ _ w.in-Ok.is w.obey.ensures.fits)
       | in-Err w ↦ rw w.next-is (unread_fits s t _ gives _ _ w.in-Err.is w.into.ensures)
-    ] in
+    ]
+
+pub write-requires : goal.write-requires
+write-requires g c =
+    let fits = reply_fits g (goal.at.write-requires g c).Joined-record in
     omega arith
 
 pub loop-record-preserved : goal.loop-record-preserved
@@ -25,11 +30,7 @@ loop-record-preserved g c =
     let s : Records = c.loop-record.record-iterator in
     let t : Records = c.next.new.self in
     let gives : NextRecord s (Some c.in-Some.record) t = c.in-Some.ensures.steps in
-    let fits : Fits s.rest.now c.match-record.next.1 t.rest.now =
-    elim c.match-record.branch [
-      | in-Ok w ↦ rw w.next-is (whole_fits s t _ gives _ _ w.in-Ok.is w.obey.ensures.fits)
-      | in-Err w ↦ rw w.next-is (unread_fits s t _ gives _ _ w.in-Err.is w.into.ensures)
-    ] in
+    let fits = reply_fits g (goal.at.loop-record-preserved g c).Joined-record in
     let room : c.loop-record.out.written + length (reply_bytes c.match-record.next.1) ≤ length c.loop-record.out.bytes.now = omega arith in
     let long = ap length c.write.ensures.bytes ∙ length-overwritten c.loop-record.out.bytes.now (reply_bytes c.match-record.next.1) c.loop-record.out.written room in (
       omega (arith, c.write.ensures.place),
