@@ -135,7 +135,8 @@ pub fn read<'s>(sheet: &'s [u8]) -> Result<Option<(Record<'s>, &'s [u8])>, Unrea
 fn body<'s>(rest: &'s [u8], kind: u8) -> Result<(&'s [u8; 10], &'s [u8]), Unreadable>
     ensures { MatchResult result (λ b. (b.0.now ≡ take 10 rest.now) × (b.1.now ≡ drop 10 rest.now) × 10 ≤ length rest.now) (λ why. (why ≡ Short kind) × length rest.now < 10) }
 {
-    rest.split_first_chunk::<10>().ok_or(Unreadable::Short(kind))
+    rest.split_first_chunk::<10>()
+        .ok_or(Unreadable::Short(kind))
 }
 
 // The records of a sheet, one after another. Where the sheet has no whole record more but bytes, the last item says why.

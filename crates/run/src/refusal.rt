@@ -85,6 +85,23 @@ impl Refusal {
     }
 }
 
+// The condition in words, or by its number.
+impl fmt::Display for Refusal {
+    fn fmt<W: fmt::Write>(&self, f: &mut fmt::Formatter<W>) -> fmt::Result {
+        match self {
+            Refusal::Field(why) => write!(f, "{why}"),
+            Refusal::Curve(why) => write!(f, "the curve is refused with {}", why.number()),
+            Refusal::Call(why) => write!(f, "the call is refused with {}", why.number()),
+            Refusal::Sheet(why) => write!(f, "{why}"),
+            Refusal::Short => write!(f, "the sheet ends inside the record"),
+            Refusal::Unknown => write!(f, "the kind of the record is unknown"),
+            Refusal::OutOfTurn => write!(f, "the record is out of turn"),
+        }
+    }
+}
+
+impl Error for Refusal {}
+
 // The refusals of fields, curves, calls and sheets, as those of a run. Written out and not derived, since proofs read what they give.
 impl From<FieldRefusal> for Refusal {
     ghost from_gives = { λ why refusal. refusal ≡ Field why };

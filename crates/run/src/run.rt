@@ -38,10 +38,7 @@ pub fn answer(sheet: &[u8], output: &mut [u8; 24576]) -> usize
     match run_closed(sheet, output) {
         Ok(n) => n,
         Err(why) => {
-            let mut out = Output {
-                bytes: output,
-                written: 0,
-            };
+            let mut out = Output::new(output);
             out.write(Reply::Refused(0, why.into()));
             out.written
         }
@@ -92,10 +89,7 @@ fn obey_all<T: Ground<R> + Drop, R: Field + Drop, M: Method<Chosen<R>> + Drop>(
     ensures bytes { LawfulMethod M.Method.answers → output.new ≡ overwritten output.old 0 (run_bytes sheet.now) }
 {
     let mut stage: Stage<T, R, M> = Stage::Start(ground);
-    let mut out = Output {
-        bytes: output,
-        written: 0,
-    };
+    let mut out = Output::new(output);
     for record in (Records { rest: sheet }) {
         let (next, reply) = match record {
             Ok(record) => stage.obey(record),

@@ -1,9 +1,8 @@
-use Rattle.std.proofs.Common.{rules, ap, ◌∙◌}
+use Rattle.std.proofs.Common.{rules}
 use Rattle.methods.specs.Methods.{LawfulMethod}
 use Rattle.run.specs.Meanings.{said_by}
 use Rattle.run.specs.Progress.{Standing, step}
-use Rattle.run.specs.Stages.{progress_at, Obeyed, ObeyedBy}
-use Rattle.run.specs.declared.reply.Reply.TheVariants.{Refused}
+use Rattle.run.specs.Stages.{progress_at, ObeyedBy}
 use Rattle.run.proofs.stage.Stage.obey.Given.{Over}
 use Rattle.run.proofs.stage.Stage.obey.Goals as goal
 use Rattle.run.proofs.stage.Stage.obey.Goals.{Joined-self, in-Start-Residues, in-Start-Nine+in-Start-this, in-Start-Nine+in-Based-1, in-Start-default, in-Based-Pairs, in-Based-Curve, in-Based-default, in-Paired-Curve, in-Paired-default, in-Ready-default}
