@@ -1,6 +1,5 @@
 -- Bytes written into a buffer, one row after another.
 use Rattle.std.proofs.Common.{◌≡◌, ℕ, ◌+◌, ◌≤◌, List, [], ◌++◌, length, take, drop, sym, ap, ◌∙◌, ap₂, append_assoc, add-zero, zero-add, add_assoc, arith, length-append, length-drop, take-append-drop}
-use borrow.Rule.Slice.PartMut.{put_mid}
 use Rattle.std.proofs.lemmas.List.{take_at, drop_at, drop-drop, length-take-le}
 use Rattle.run.specs.Buffers.{overwritten}
 
@@ -15,11 +14,6 @@ pub length-overwritten : (xs bytes : List ℕ) (n : ℕ) → n + length bytes �
 length-overwritten xs bytes n fits =
     let h : n ≤ length xs = omega arith in
     simp (length-append, length-drop) (omega (arith, length-take-le n xs h))
-
--- A part of the buffer takes the bytes.
-pub overwritten_part : (xs ys bytes : List ℕ) (n k : ℕ) → k ≡ length bytes → ys ≡ bytes → put_mid n k xs ys ≡ overwritten xs n bytes
-overwritten_part xs ys bytes n k size same =
-    rw (size, same) (ap (λ zs. take n xs ++ (bytes ++ zs)) (drop-drop (length bytes) n xs))
 
 module _ (xs a b : List ℕ) (n : ℕ) (fits : n + length a ≤ length xs) where
   split : overwritten xs n a ≡ (take n xs ++ a) ++ drop (n + length a) xs

@@ -9,7 +9,7 @@ use Rattle.run.specs.declared.reply.Reply.{Reply}
 use Rattle.run.specs.declared.reply.Reply.TheVariants.{Refused}
 use Rattle.run.specs.Buffers.{overwritten}
 use Rattle.run.specs.Records.{least_size, end, reading}
-use Rattle.run.specs.Meanings.{said_by, NextRecord}
+use Rattle.run.specs.Meanings.{said_by, unread_reply, NextRecord}
 use Rattle.run.specs.Progress.{Progress, Standing, step, reply_bytes}
 use Rattle.run.specs.Run.{run_from, run_bytes}
 use Rattle.run.specs.Stages.{Obeyed}
@@ -34,17 +34,15 @@ module _ (s t : Records) (item : Result Record Unreadable) (gives : NextRecord s
   pub whole_fits : (x : Record) (r : Reply) → item ≡ Ok x → length (reply_bytes r) ≤ 6 * least_size (said_by x) → Fits s.rest.now r t.rest.now
   whole_fits x r is small = let shorter = whole_shorter s.rest.now (said_by x) t.rest.now (given (Ok x) is) in omega arith
 
-  pub short_fits : (kind : ℕ) → item ≡ Err (ShortAt kind) → Fits s.rest.now (Refused kind Short) t.rest.now
-  short_fits kind is =
-      let e = given (Err (ShortAt kind)) is in
-      let some = short_some s.rest.now kind e.0 in
-      omega (arith, ap length e.1)
-
-  pub unknown_fits : (kind : ℕ) → item ≡ Err (UnknownAt kind) → Fits s.rest.now (Refused kind Unknown) t.rest.now
-  unknown_fits kind is =
-      let e = given (Err (UnknownAt kind)) is in
-      let some = unknown_some s.rest.now kind e.0 in
-      omega (arith, ap length e.1)
+  pub unread_fits : (why : Unreadable) (r : Reply) → item ≡ Err why → r ≡ unread_reply why → Fits s.rest.now r t.rest.now
+  unread_fits (ShortAt kind) r is e =
+      let h = given (Err (ShortAt kind)) is in
+      let some = short_some s.rest.now kind h.0 in
+      rw e (omega (arith, ap length h.1))
+  unread_fits (UnknownAt kind) r is e =
+      let h = given (Err (UnknownAt kind)) is in
+      let some = unknown_some s.rest.now kind h.0 in
+      rw e (omega (arith, ap length h.1))
 
   module _ (p : Progress) (stands : Standing p) where
     pub whole_turned : (x : Record) (q : Progress) (r : Reply) → item ≡ Ok x → Obeyed p (said_by x) q r → Turned p s.rest.now q r t.rest.now
@@ -66,15 +64,13 @@ module _ (s t : Records) (item : Result Record Unreadable) (gives : NextRecord s
               ∙ sym (ap (λ xs. reply_bytes r ++ xs) (ap (run_from p) none ∙ run_end p [] reading-none));
         }
 
-    pub short_turned : (kind : ℕ) → item ≡ Err (ShortAt kind) → Turned p s.rest.now p (Refused kind Short) t.rest.now
-    short_turned kind is =
-        let e = given (Err (ShortAt kind)) is in
-        last_turned (Refused kind Short) (run_short p s.rest.now kind e.0) e.1
-
-    pub unknown_turned : (kind : ℕ) → item ≡ Err (UnknownAt kind) → Turned p s.rest.now p (Refused kind Unknown) t.rest.now
-    unknown_turned kind is =
-        let e = given (Err (UnknownAt kind)) is in
-        last_turned (Refused kind Unknown) (run_unknown p s.rest.now kind e.0) e.1
+    pub unread_turned : (why : Unreadable) (r : Reply) → item ≡ Err why → r ≡ unread_reply why → Turned p s.rest.now p r t.rest.now
+    unread_turned (ShortAt kind) r is e =
+        let h = given (Err (ShortAt kind)) is in
+        rw e (last_turned (Refused kind Short) (run_short p s.rest.now kind h.0) h.1)
+    unread_turned (UnknownAt kind) r is e =
+        let h = given (Err (UnknownAt kind)) is in
+        rw e (last_turned (Refused kind Unknown) (run_unknown p s.rest.now kind h.0) h.1)
 
 -- A run of a sheet has come to p, with n bytes written into the output and these bytes of the sheet left.
 pub record Running (sheet before : List ℕ) (p : Progress) (rest output : List ℕ) (n : ℕ) : Type 0 where

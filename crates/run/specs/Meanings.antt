@@ -12,6 +12,9 @@ use Rattle.run.specs.declared.record.Record.TheVariants.{Residues, Nine, Pairs, 
 use Rattle.run.specs.declared.record.Records.{Records}
 use Rattle.run.specs.declared.record.Unreadable.{Unreadable}
 use Rattle.run.specs.declared.record.Unreadable.TheVariants.{Short, Unknown}
+use Rattle.run.specs.declared.refusal.Refusal.TheVariants.{Short as CutShort, Unknown as UnknownKind}
+use Rattle.run.specs.declared.reply.Reply.{Reply}
+use Rattle.run.specs.declared.reply.Reply.TheVariants.{Refused}
 
 abbrev pub called_by : CallRecord → Call
 called_by (Enter t body) = EnterCall t (divisor_at body.now)
@@ -32,6 +35,11 @@ read_as (Ok None) = end
 read_as (Ok (Some (r, rest))) = whole (said_by r) rest.now
 read_as (Err (Short k)) = short k
 read_as (Err (Unknown k)) = unknown k
+
+-- What is written where there is no record first on a sheet.
+abbrev pub unread_reply : Unreadable → Reply
+unread_reply (Short k) = Refused k CutShort
+unread_reply (Unknown k) = Refused k UnknownKind
 
 -- What the records of a sheet give next: a whole record, before the rest; why there is none, before nothing; or the end.
 abbrev pub NextRecord : Records → Option (Result Record Unreadable) → Records → Type 0

@@ -13,7 +13,15 @@ pub(crate) struct Output<'o> {
     pub(crate) written: usize,
 }
 
-impl Output<'_> {
+impl<'o> Output<'o> {
+    // Nothing is written yet.
+    pub(crate) fn new(bytes: &'o mut [u8]) -> Output<'o>
+        ensures bytes { result.bytes ≡ bytes.entry }
+        ensures none { result.written ≡ 0 }
+    {
+        Output { bytes, written: 0 }
+    }
+
     // Writes a reply behind what is written.
     pub(crate) fn write(&mut self, reply: Reply)
         requires { self.old.written + length (reply_bytes reply) ≤ length self.old.bytes.now }

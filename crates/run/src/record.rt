@@ -1,15 +1,18 @@
-// Records, read from the front of a sheet.
-ghost use Rattle.std.specs.Prelude.{◌≡◌, ◌+◌, ◌*◌, ◌/◌, ◌%◌, length};
+// Records, read from the front of a sheet. The kinds are the bytes of the sheet's format, and are read by slice patterns.
+ghost use Rattle.std.specs.Prelude.{◌≡◌, ◌+◌, ◌*◌, ◌/◌, ◌%◌, ◌<◌, ◌≤◌, length, take, drop, MatchResult};
 ghost use Rattle.std.specs.Iterator.{at_most};
 ghost use Rattle.run.specs.Bytes.{curve_at, divisor_at, divisor_bytes};
 ghost use Rattle.run.specs.Records.{kind_of_call, kind_of, reading};
+ghost use Rattle.run.specs.declared.record.Unreadable.TheVariants.{Short};
 ghost use Rattle.run.specs.Meanings.{called_by, said_by, read_as, NextRecord};
 
 use calculator::Call;
 use methods::{Curve, Divisor, Linear};
+use std::error::Error;
+use std::fmt;
 
 // A record, whose bodies of a curve and of a divisor are parts of the sheet.
-#[derive(Clone, Copy, Debug, PartialEq, Eq)]
+#[derive(Clone, Copy, Debug, PartialEq, Eq, Hash)]
 pub enum Record<'s> {
     Residues(u16),
     Nine,
@@ -18,8 +21,9 @@ pub enum Record<'s> {
     Call(CallRecord<'s>),
 }
 
-// A record that calls the calculator.
-#[derive(Clone, Copy, Debug, PartialEq, Eq)]
+// A record that calls the calculator: the calls of the calculator, with the ten bytes on the sheet for the divisor of Enter. A type
+// of its own, since a type parameter on each mention of `Call` would be no plainer.
+#[derive(Clone, Copy, Debug, PartialEq, Eq, Hash)]
 pub enum CallRecord<'s> {
     // register, divisor
     Enter(u8, &'s [u8; 10]),
@@ -85,6 +89,18 @@ pub enum Unreadable {
     Unknown(u8),
 }
 
+// What stands there in words.
+impl fmt::Display for Unreadable {
+    fn fmt<W: fmt::Write>(&self, f: &mut fmt::Formatter<W>) -> fmt::Result {
+        match self {
+            Unreadable::Short(kind) => write!(f, "the sheet ends inside a record of kind {kind}"),
+            Unreadable::Unknown(kind) => write!(f, "the kind {kind} of a record is unknown"),
+        }
+    }
+}
+
+impl Error for Unreadable {}
+
 // The first record of the sheet and the rest, if any byte is left.
 pub fn read<'s>(sheet: &'s [u8]) -> Result<Option<(Record<'s>, &'s [u8])>, Unreadable>
     ensures { read_as result ≡ reading sheet.now }
@@ -99,11 +115,11 @@ pub fn read<'s>(sheet: &'s [u8]) -> Result<Option<(Record<'s>, &'s [u8])>, Unrea
             Ok(Some((Record::Pairs(u16::from_le_bytes([*low, *high])), rest)))
         }
         [4, rest @ ..] => {
-            let (body, rest) = rest.split_first_chunk::<10>().ok_or(Unreadable::Short(4))?;
+            let (body, rest) = body(rest, 4)?;
             Ok(Some((Record::Curve(body), rest)))
         }
         [5, t, rest @ ..] => {
-            let (body, rest) = rest.split_first_chunk::<10>().ok_or(Unreadable::Short(5))?;
+            let (body, rest) = body(rest, 5)?;
             Ok(Some((Record::Call(CallRecord::Enter(*t, body)), rest)))
         }
         [6, t, a, b, rest @ ..] => Ok(Some((Record::Call(CallRecord::Add(*t, *a, *b)), rest))),
@@ -115,8 +131,16 @@ pub fn read<'s>(sheet: &'s [u8]) -> Result<Option<(Record<'s>, &'s [u8])>, Unrea
     }
 }
 
+// The ten bytes of a curve or a divisor, and the rest behind them, of a record of this kind.
+fn body<'s>(rest: &'s [u8], kind: u8) -> Result<(&'s [u8; 10], &'s [u8]), Unreadable>
+    ensures { MatchResult result (λ b. (b.0.now ≡ take 10 rest.now) × (b.1.now ≡ drop 10 rest.now) × 10 ≤ length rest.now) (λ why. (why ≡ Short kind) × length rest.now < 10) }
+{
+    rest.split_first_chunk::<10>()
+        .ok_or(Unreadable::Short(kind))
+}
+
 // The records of a sheet, one after another. Where the sheet has no whole record more but bytes, the last item says why.
-#[derive(Clone, Copy)]
+#[derive(Clone, Copy, Debug)]
 pub(crate) struct Records<'s> {
     pub(crate) rest: &'s [u8],
 }

@@ -6,6 +6,8 @@ ghost use Rattle.run.specs.Refusals.{run_refusal_number, sheet_refusal_number, h
 use calculator::CallRefusal;
 use fields::FieldRefusal;
 use methods::CurveRefusal;
+use std::error::Error;
+use std::fmt;
 
 // Why the sizes of a sheet and its output are refused.
 #[derive(Clone, Copy, Debug, PartialEq, Eq, Hash)]
@@ -34,6 +36,18 @@ impl SheetRefusal {
         65536 + u32::from(self.number())
     }
 }
+
+// The condition in words.
+impl fmt::Display for SheetRefusal {
+    fn fmt<W: fmt::Write>(&self, f: &mut fmt::Formatter<W>) -> fmt::Result {
+        match self {
+            SheetRefusal::OutputLength => write!(f, "the output is not 24576 bytes long"),
+            SheetRefusal::SheetLength => write!(f, "the sheet is over 4096 bytes long"),
+        }
+    }
+}
+
+impl Error for SheetRefusal {}
 
 // Why a record is refused, and for the program a sheet.
 #[derive(Clone, Copy, Debug, PartialEq, Eq, Hash)]
@@ -70,6 +84,23 @@ impl Refusal {
         }
     }
 }
+
+// The condition in words, or by its number.
+impl fmt::Display for Refusal {
+    fn fmt<W: fmt::Write>(&self, f: &mut fmt::Formatter<W>) -> fmt::Result {
+        match self {
+            Refusal::Field(why) => write!(f, "{why}"),
+            Refusal::Curve(why) => write!(f, "the curve is refused with {}", why.number()),
+            Refusal::Call(why) => write!(f, "the call is refused with {}", why.number()),
+            Refusal::Sheet(why) => write!(f, "{why}"),
+            Refusal::Short => write!(f, "the sheet ends inside the record"),
+            Refusal::Unknown => write!(f, "the kind of the record is unknown"),
+            Refusal::OutOfTurn => write!(f, "the record is out of turn"),
+        }
+    }
+}
+
+impl Error for Refusal {}
 
 // The refusals of fields, curves, calls and sheets, as those of a run. Written out and not derived, since proofs read what they give.
 impl From<FieldRefusal> for Refusal {

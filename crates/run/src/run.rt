@@ -1,4 +1,4 @@
-// The run of a sheet.
+// The run of a sheet. A sheet and its output are two slices, as the C interface hands them over.
 ghost use Rattle.std.specs.Prelude.{◌≡◌, ◌*◌, ◌≤◌, IfOk, length};
 ghost use Rattle.methods.specs.Methods.{LawfulMethod};
 ghost use Rattle.run.specs.Run.{run_bytes, run_answer, run_result, run_output, program_bytes};
@@ -8,8 +8,8 @@ ghost use Rattle.run.specs.Laws.{Laws};
 
 use crate::field::Chosen;
 use crate::output::Output;
-use crate::record::{Records, Unreadable};
-use crate::refusal::{Refusal, SheetRefusal};
+use crate::record::Records;
+use crate::refusal::SheetRefusal;
 use crate::reply::Reply;
 use crate::stage::Stage;
 use crate::table::{Ground, Table};
@@ -38,10 +38,7 @@ pub fn answer(sheet: &[u8], output: &mut [u8; 24576]) -> usize
     match run_closed(sheet, output) {
         Ok(n) => n,
         Err(why) => {
-            let mut out = Output {
-                bytes: output,
-                written: 0,
-            };
+            let mut out = Output::new(output);
             out.write(Reply::Refused(0, why.into()));
             out.written
         }
@@ -59,7 +56,7 @@ fn run_closed(sheet: &[u8], output: &mut [u8]) -> Result<usize, SheetRefusal>
 }
 
 // The run with any method: the number of bytes written, or why nothing is. If the method is lawful, it makes no difference which
-// one it is.
+// one it is. `LawfulMethod` is a premise here and below, since a run takes every method, lawful or not.
 pub fn run_by<'t, M: Method<Chosen<Residues<'t>>> + Drop>(
     entries: &'t mut [u16; 8191],
     sheet: &[u8],
@@ -92,15 +89,11 @@ fn obey_all<T: Ground<R> + Drop, R: Field + Drop, M: Method<Chosen<R>> + Drop>(
     ensures bytes { LawfulMethod M.Method.answers → output.new ≡ overwritten output.old 0 (run_bytes sheet.now) }
 {
     let mut stage: Stage<T, R, M> = Stage::Start(ground);
-    let mut out = Output {
-        bytes: output,
-        written: 0,
-    };
+    let mut out = Output::new(output);
     for record in (Records { rest: sheet }) {
         let (next, reply) = match record {
             Ok(record) => stage.obey(record),
-            Err(Unreadable::Short(kind)) => (stage, Reply::Refused(kind, Refusal::Short)),
-            Err(Unreadable::Unknown(kind)) => (stage, Reply::Refused(kind, Refusal::Unknown)),
+            Err(why) => (stage, why.into()),
         };
         stage = next;
         out.write(reply);

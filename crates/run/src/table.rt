@@ -21,7 +21,7 @@ pub(crate) struct Table<'t> {
 impl<'t> Ground<Residues<'t>> for Table<'t> {
     fn residues(self, m: u16) -> Result<Residues<'t>, (Table<'t>, FieldRefusal)> {
         let Table { entries } = self;
-        let n = (m as usize).min(8191);
+        let n = usize::from(m).min(8191);
         match Residues::fill(m, &mut entries[0..n]) {
             Ok(()) => Ok(Residues::on(m, &entries[0..n])),
             Err(why) => Err((Table { entries }, why)),

@@ -1,9 +1,6 @@
 -- What is read at each pattern is what stands first on the sheet.
-use Rattle.std.proofs.Common.{◌≡◌, ℕ, List, sym, refl, ap, ◌∙◌, arith}
-use Rattle.std.specs.Option.{ok_or}
-use Rattle.std.specs.Result.{result_ok}
+use Rattle.std.proofs.Common.{ℕ, List, refl, ap, ◌∙◌, arith}
 use Rattle.std.proofs.lemmas.Result.{err_from_is_err_and}
-use Rattle.run.specs.declared.record.Unreadable.TheVariants.{Short}
 use Rattle.run.specs.Records.{whole, modulus, square_root}
 use Rattle.run.proofs.Reading.{after_bytes, read_bytes, read_parts, read_cut, read_end, read_short, read_unknown}
 use Rattle.run.proofs.record.read.Goals as goal
@@ -28,35 +25,25 @@ returns-in-3 c =
 
 pub returns-in_ok-body-in-4 : goal.returns-in_ok-body-in-4
 returns-in_ok-body-in-4 c =
-    let is = c.ok_or-in-4.ensures.ok_part ∙ ap result_ok c.in_ok-body-in-4.was in
-    let parts = rw is at c.split_first_chunk-in-4.ensures.cases in
+    let parts = c.in_ok-body-in-4.ensures in
     read_parts 0 4 _ c.args.sheet.now refl (grind arith) (grind arith) 10 _ _ refl (omega arith) parts.0 parts.1
 
 pub returns-in_err-body-in-4 : goal.returns-in_err-body-in-4
 returns-in_err-body-in-4 c =
-    let h = c.ok_or-in-4.ensures in
-    let is = h.ok_part ∙ ap result_ok c.in_err-body-in-4.was in
-    let why = sym c.in_err-body-in-4.was ∙ h.value ∙ ap (λ o. ok_or o (Short 4)) is in
-    let same : c.in_err-body-in-4.field-0.0 ≡ Short 4 = cc in
+    let cut = c.in_err-body-in-4.ensures in
     let left = err_from_is_err_and c.from_residual-in_err-body-in-4.result c.from_residual-in_err-body-in-4.ensures.1 in
-    rw (left.1, left.2, same)
-    (read_cut 0 4 _ c.args.sheet.now refl (grind arith) (grind arith) 10 refl (rw is at c.split_first_chunk-in-4.ensures.cases))
+    rw (left.1, left.2, cut.0) (read_cut 0 4 _ c.args.sheet.now refl (grind arith) (grind arith) 10 refl cut.1)
 
 pub returns-in_ok-body-in-5 : goal.returns-in_ok-body-in-5
 returns-in_ok-body-in-5 c =
-    let is = c.ok_or.ensures.ok_part ∙ ap result_ok c.in_ok-body-in-5.was in
-    let parts = rw is at c.split_first_chunk.ensures.cases in
+    let parts = c.in_ok-body-in-5.ensures in
     read_parts 1 5 _ c.args.sheet.now refl (grind arith) (grind arith) 10 _ _ refl (omega arith) parts.0 parts.1
 
 pub returns-in_err-body-in-5 : goal.returns-in_err-body-in-5
 returns-in_err-body-in-5 c =
-    let h = c.ok_or.ensures in
-    let is = h.ok_part ∙ ap result_ok c.in_err-body-in-5.was in
-    let why = sym c.in_err-body-in-5.was ∙ h.value ∙ ap (λ o. ok_or o (Short 5)) is in
-    let same : c.in_err-body-in-5.field-0.0 ≡ Short 5 = cc in
+    let cut = c.in_err-body-in-5.ensures in
     let left = err_from_is_err_and c.from_residual.result c.from_residual.ensures.1 in
-    rw (left.1, left.2, same)
-    (read_cut 1 5 _ c.args.sheet.now refl (grind arith) (grind arith) 10 refl (rw is at c.split_first_chunk.ensures.cases))
+    rw (left.1, left.2, cut.0) (read_cut 1 5 _ c.args.sheet.now refl (grind arith) (grind arith) 10 refl cut.1)
 
 pub returns-in-6 : goal.returns-in-6
 returns-in-6 c = read_bytes 3 6 _ c.args.sheet.now refl (grind arith) (grind arith) refl

@@ -1,24 +1,28 @@
-use Rattle.std.proofs.Common.{◌+◌, ◌≤◌, length, Some, Err, ap, ◌∙◌, arith}
+use Rattle.std.proofs.Common.{◌+◌, ◌≤◌, length, Some, ap, ◌∙◌, arith}
 use Rattle.run.specs.declared.record.Records.{Records}
 use Rattle.run.specs.Meanings.{NextRecord}
 use Rattle.run.specs.Progress.{reply_bytes}
 use Rattle.run.specs.Stages.{progress_at}
 use Rattle.run.proofs.Buffers.{length-overwritten}
-use Rattle.run.proofs.Running.{Fits, Turned, whole_fits, short_fits, unknown_fits, whole_turned, short_turned, unknown_turned, running_on, running_end}
+use Rattle.run.proofs.Running.{Fits, Turned, whole_fits, unread_fits, whole_turned, unread_turned, running_on, running_end}
+use Rattle.run.proofs.run.obey_all.Given.{Over}
 use Rattle.run.proofs.run.obey_all.Goals as goal
-use Rattle.run.proofs.run.obey_all.Goals.{in-Ok, in-Err-Short, in-Err-Unknown}
+use Rattle.run.proofs.run.obey_all.Goals.{Joined-record, in-Ok, in-Err}
 
-pub write-requires : goal.write-requires
-write-requires g c =
+-- The reply to an item of the sheet fits the output.
+reply_fits : (g : Over) (c : Joined-record g) → Fits c.loop-record.record-iterator.rest.now c.match-record.next.1 c.next.new.self.rest.now
+reply_fits g c =
     let s : Records = c.loop-record.record-iterator in
     let t : Records = c.next.new.self in
     let gives : NextRecord s (Some c.in-Some.record) t = c.in-Some.ensures.steps in
-    let fits : Fits s.rest.now c.match-record.next.1 t.rest.now =
     elim c.match-record.branch [
       | in-Ok w ↦ rw w.next-is (whole_fits s t _ gives _ _ w.in-Ok.is w.obey.ensures.fits)
-      | in-Err-Short w ↦ rw w.next-is (short_fits s t _ gives _ (w.in-Err-Short.is ∙ ap Err (rw w.in-Err-Short.is at w.in-Err-Short.field-0-is)))
-      | in-Err-Unknown w ↦ rw w.next-is (unknown_fits s t _ gives _ (w.in-Err-Unknown.is ∙ ap Err (rw w.in-Err-Unknown.is at w.in-Err-Unknown.field-0-is)))
-    ] in
+      | in-Err w ↦ rw w.next-is (unread_fits s t _ gives _ _ w.in-Err.is w.into.ensures)
+    ]
+
+pub write-requires : goal.write-requires
+write-requires g c =
+    let fits = reply_fits g (goal.at.write-requires g c).Joined-record in
     omega arith
 
 pub loop-record-preserved : goal.loop-record-preserved
@@ -26,12 +30,7 @@ loop-record-preserved g c =
     let s : Records = c.loop-record.record-iterator in
     let t : Records = c.next.new.self in
     let gives : NextRecord s (Some c.in-Some.record) t = c.in-Some.ensures.steps in
-    let fits : Fits s.rest.now c.match-record.next.1 t.rest.now =
-    elim c.match-record.branch [
-      | in-Ok w ↦ rw w.next-is (whole_fits s t _ gives _ _ w.in-Ok.is w.obey.ensures.fits)
-      | in-Err-Short w ↦ rw w.next-is (short_fits s t _ gives _ (w.in-Err-Short.is ∙ ap Err (rw w.in-Err-Short.is at w.in-Err-Short.field-0-is)))
-      | in-Err-Unknown w ↦ rw w.next-is (unknown_fits s t _ gives _ (w.in-Err-Unknown.is ∙ ap Err (rw w.in-Err-Unknown.is at w.in-Err-Unknown.field-0-is)))
-    ] in
+    let fits = reply_fits g (goal.at.loop-record-preserved g c).Joined-record in
     let room : c.loop-record.out.written + length (reply_bytes c.match-record.next.1) ≤ length c.loop-record.out.bytes.now = omega arith in
     let long = ap length c.write.ensures.bytes ∙ length-overwritten c.loop-record.out.bytes.now (reply_bytes c.match-record.next.1) c.loop-record.out.written room in (
       omega (arith, c.write.ensures.place),
@@ -42,8 +41,7 @@ loop-record-preserved g c =
           let turned : Turned (progress_at g.R.Field c.loop-record.stage) s.rest.now (progress_at g.R.Field c.match-record.next.0) c.match-record.next.1 t.rest.now =
           elim c.match-record.branch [
             | in-Ok w ↦ rw w.next-is (whole_turned s t _ gives _ stands _ _ _ w.in-Ok.is (w.obey.ensures.obeyed method stands))
-            | in-Err-Short w ↦ rw w.next-is (short_turned s t _ gives _ stands _ (w.in-Err-Short.is ∙ ap Err (rw w.in-Err-Short.is at w.in-Err-Short.field-0-is)))
-            | in-Err-Unknown w ↦ rw w.next-is (unknown_turned s t _ gives _ stands _ (w.in-Err-Unknown.is ∙ ap Err (rw w.in-Err-Unknown.is at w.in-Err-Unknown.field-0-is)))
+            | in-Err w ↦ rw w.next-is (unread_turned s t _ gives _ stands _ _ w.in-Err.is w.into.ensures)
           ] in
           running_on _ _ _ _ _ _ running _ _ _ _ _ turned room c.write.ensures.place c.write.ensures.bytes,
     )

@@ -1,3 +1,4 @@
+-- Closed formulas over the polynomial method are a lawful method.
 use Rattle.std.proofs.Common.{refl}
 use Rattle.methods.specs.Methods.{LawfulMethod, the_law}
 use Rattle.closed_formulas.specs.Formulas.{closed}

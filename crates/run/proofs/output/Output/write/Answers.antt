@@ -1,3 +1,4 @@
+-- A shown register takes two bytes, and its divisor ten behind them.
 use Rattle.std.proofs.Common.{◌≡◌, ℕ, ◌+◌, ◌≤◌, List, [], ◌∷◌, length, ◌∙◌, arith}
 use Rattle.run.specs.Bytes.{divisor_bytes}
 use Rattle.run.proofs.Buffers.{overwritten-more}
