@@ -16,7 +16,13 @@ fn main(rt: HostRuntime) -> io::Result<()> {
     let asked = env::args(&rt)?
         .nth(1)
         .and_then(|word| word.parse::<u32>().ok());
-    let residues = Sequence {
+    measure(&rt, Named::Residues(8191), on_residues(asked))?;
+    measure(&rt, Named::Pairs(251, 6), on_pairs(asked))
+}
+
+// A sequence over the residues modulo 8,191.
+fn on_residues(asked: Option<u32>) -> Sequence {
+    Sequence {
         curve: Curve {
             f4: 423,
             f3: 6114,
@@ -24,11 +30,15 @@ fn main(rt: HostRuntime) -> io::Result<()> {
             f1: 5802,
             f0: 2724,
         },
-        first: of_degree_2([4805, 3862], [8090, 5285]),
-        second: of_degree_2([5074, 5504], [945, 1758]),
+        first: Divisor::of_degree_2(Linear { x1: 4805, x0: 3862 }, Linear { x1: 8090, x0: 5285 }),
+        second: Divisor::of_degree_2(Linear { x1: 5074, x0: 5504 }, Linear { x1: 945, x0: 1758 }),
         asked,
-    };
-    let pairs = Sequence {
+    }
+}
+
+// A sequence over the pairs with t² = 6 on the residues modulo 251.
+fn on_pairs(asked: Option<u32>) -> Sequence {
+    Sequence {
         curve: Curve {
             f4: 43373,
             f3: 20865,
@@ -36,25 +46,31 @@ fn main(rt: HostRuntime) -> io::Result<()> {
             f1: 21633,
             f0: 41421,
         },
-        first: of_degree_2([9196, 61853], [29814, 35410]),
-        second: of_degree_2([59518, 54966], [28395, 2687]),
-        ..residues
-    };
-    measure(&rt, Named::Residues(8191), residues)?;
-    measure(&rt, Named::Pairs(251, 6), pairs)
+        first: Divisor::of_degree_2(
+            Linear {
+                x1: 9196,
+                x0: 61853,
+            },
+            Linear {
+                x1: 29814,
+                x0: 35410,
+            },
+        ),
+        second: Divisor::of_degree_2(
+            Linear {
+                x1: 59518,
+                x0: 54966,
+            },
+            Linear {
+                x1: 28395,
+                x0: 2687,
+            },
+        ),
+        asked,
+    }
 }
 
 fn measure(rt: &HostRuntime, field: Named, sequence: Sequence) -> io::Result<()> {
     println!(rt; "{field}")?;
     over(rt, field, sequence)
-}
-
-// The divisor with these u1 and u0, and v1 and v0.
-fn of_degree_2([u1, u0]: [u32; 2], [v1, v0]: [u32; 2]) -> Divisor {
-    Divisor {
-        degree: 2,
-        u: Linear { x1: u1, x0: u0 },
-        v: Linear { x1: v1, x0: v0 },
-        n: 0,
-    }
 }
