@@ -85,13 +85,13 @@ impl Refusal {
     }
 }
 
-// The condition in words, or by its number.
+// The condition in words.
 impl fmt::Display for Refusal {
     fn fmt<W: fmt::Write>(&self, f: &mut fmt::Formatter<W>) -> fmt::Result {
         match self {
             Refusal::Field(why) => write!(f, "{why}"),
-            Refusal::Curve(why) => write!(f, "the curve is refused with {}", why.number()),
-            Refusal::Call(why) => write!(f, "the call is refused with {}", why.number()),
+            Refusal::Curve(why) => write!(f, "{why}"),
+            Refusal::Call(why) => write!(f, "{why}"),
             Refusal::Sheet(why) => write!(f, "{why}"),
             Refusal::Short => write!(f, "the sheet ends inside the record"),
             Refusal::Unknown => write!(f, "the kind of the record is unknown"),
