@@ -19,7 +19,7 @@ pub struct Calculator<F, M> {
 }
 
 // Every call takes every field and method, lawful or not, so that `Sound` is a premise of the clauses and no invariant of the type.
-// Each kind of call is a method of its own, as double and negate, which differ in one line.
+// A rule of the project has a method for each kind of call. One for double and negate, which differ in one line, would be no plainer.
 impl<F: Field, M: Method<F>> Calculator<F, M> {
     // A fresh calculator on a model.
     pub fn new(model: Model<F>) -> Calculator<F, M>

@@ -61,7 +61,7 @@ impl CallRefusal {
     }
 }
 
-// The condition in words.
+// The condition in words, which no clause states: it would write each text a second time.
 impl fmt::Display for CallRefusal {
     fn fmt<W: fmt::Write>(&self, f: &mut fmt::Formatter<W>) -> fmt::Result {
         match self {

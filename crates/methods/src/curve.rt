@@ -40,7 +40,7 @@ impl CurveRefusal {
     }
 }
 
-// The condition in words.
+// The condition in words, which no clause states: it would write each text a second time.
 impl fmt::Display for CurveRefusal {
     fn fmt<W: fmt::Write>(&self, f: &mut fmt::Formatter<W>) -> fmt::Result {
         match self {

@@ -55,7 +55,7 @@ impl DivisorRefusal {
     }
 }
 
-// The condition in words.
+// The condition in words, which no clause states: it would write each text a second time.
 impl fmt::Display for DivisorRefusal {
     fn fmt<W: fmt::Write>(&self, f: &mut fmt::Formatter<W>) -> fmt::Result {
         match self {

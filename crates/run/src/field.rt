@@ -3,8 +3,8 @@ ghost use Rattle.run.specs.Choices.{one_of};
 
 use fields::{Field, Nine, Pairs};
 
-// A value of one of two types. It is declared here, since Field can only be implemented in the crate of Field or of the type, and
-// Left and Right, as the kit's either::Either has them, would say no more than First and Second.
+// A value of one of two types. It is declared here, since Field can only be implemented in the crate of Field, which does not
+// know of sheets, or of the type; and Left and Right, as the kit's either::Either has them, would say no more than First and Second.
 #[derive(Debug, Drop, PartialEq, Eq, Hash)]
 pub enum OneOf<F, G> {
     First(F),

@@ -6,7 +6,8 @@ ghost use Rattle.run.specs.Progress.{reply_bytes};
 use crate::record::divisor_bytes;
 use crate::reply::Reply;
 
-// The bytes that the host lends, and how many of them are written, from their start on. No Vec: its memory is the host's.
+// The bytes that the host lends, and how many of them are written, from their start on. No Vec: its memory is the host's. Drop alone:
+// nothing prints or compares that memory.
 #[derive(Drop)]
 pub(crate) struct Output<'o> {
     pub(crate) bytes: &'o mut [u8],

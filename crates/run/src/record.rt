@@ -22,7 +22,8 @@ pub enum Record<'s> {
 }
 
 // A record that calls the calculator: the calls of the calculator, with the ten bytes on the sheet for the divisor of Enter. A type
-// of its own, since a type parameter on each mention of `Call` would be no plainer.
+// of its own, since by a rule of the project the bytes stay on the sheet, and a type parameter on each mention of `Call` would be
+// no plainer.
 #[derive(Clone, Copy, Debug, PartialEq, Eq, Hash)]
 pub enum CallRecord<'s> {
     // register, divisor
@@ -89,7 +90,7 @@ pub enum Unreadable {
     Unknown(u8),
 }
 
-// What stands there in words.
+// What stands there in words, which no clause states: it would write each text a second time.
 impl fmt::Display for Unreadable {
     fn fmt<W: fmt::Write>(&self, f: &mut fmt::Formatter<W>) -> fmt::Result {
         match self {

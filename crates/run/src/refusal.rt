@@ -37,7 +37,7 @@ impl SheetRefusal {
     }
 }
 
-// The condition in words.
+// The condition in words, which no clause states: it would write each text a second time.
 impl fmt::Display for SheetRefusal {
     fn fmt<W: fmt::Write>(&self, f: &mut fmt::Formatter<W>) -> fmt::Result {
         match self {
@@ -85,7 +85,7 @@ impl Refusal {
     }
 }
 
-// The condition in words.
+// The condition in words, which no clause states: it would write each text a second time.
 impl fmt::Display for Refusal {
     fn fmt<W: fmt::Write>(&self, f: &mut fmt::Formatter<W>) -> fmt::Result {
         match self {

@@ -17,7 +17,8 @@ use closed_formulas::Closed;
 use fields::{Field, Residues};
 use methods::{ByPolynomials, Method};
 
-// The call of a host program: runs a sheet with closed formulas over the polynomial method.
+// The call of a host program: runs a sheet with closed formulas over the polynomial method. It answers a number, since the C interface
+// has no Result.
 pub fn zafindoro_run(sheet: &[u8], output: &mut [u8]) -> u32
     ensures answer { result ≡ run_answer sheet.now output.old }
     ensures output { output.new ≡ run_output sheet.now output.old }

@@ -18,6 +18,7 @@ use fields::{Field, Nine, Pairs};
 use methods::{Curve, Draft, Method, Model};
 
 // What the accepted records have brought: nothing yet but the ground for residues; a base field; pairs over one; or a calculator.
+// Drop alone: it holds memory of the ground, and nothing prints or compares a stage.
 #[derive(Drop)]
 pub(crate) enum Stage<T, R: Field, M> {
     Start(T),

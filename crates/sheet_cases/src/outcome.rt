@@ -4,7 +4,7 @@ use methods::ByPolynomials;
 use run::{run_by, zafindoro_run};
 use std::alloc::{AllocError, Global};
 
-// The number answered, and the whole output as the run left it.
+// The number answered, as a C host has it, which has no Result, and the whole output as the run left it.
 #[derive(Debug, PartialEq, Eq, Drop)]
 pub struct Outcome {
     answer: u32,
