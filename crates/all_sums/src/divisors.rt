@@ -11,9 +11,11 @@ pub fn valid_divisors<F: Field>(
     let (field, curve) = (model.field(), model.curve());
     let mut found = Vec::new(heap);
     for degree in 0..3 {
-        let lower = below_degree(heap, field.size(), degree)?;
-        for &u in &lower {
-            for &v in &lower {
+        let (q1, q0) = coefficients(field.size(), degree);
+        // The polynomials below the degree, one after another and not in a list, which would have q² of them.
+        let lower = || (0..q1).flat_map(|x1| (0..q0).map(move |x0| Linear { x1, x0 }));
+        for u in lower() {
+            for v in lower() {
                 for n in 0..3 {
                     let d = Divisor { degree, u, v, n };
                     if entered(field, curve, d).is_ok() {
@@ -26,18 +28,11 @@ pub fn valid_divisors<F: Field>(
     Ok(found)
 }
 
-// The polynomials below this degree over a field of q elements, by their two coefficients.
-fn below_degree(heap: Global, q: u32, degree: u8) -> Result<Vec<Linear>, AllocError> {
-    let (q1, q0) = match degree {
+// How many numbers each of the two coefficients of a polynomial below this degree takes, over a field of q elements.
+fn coefficients(q: u32, degree: u8) -> (u32, u32) {
+    match degree {
         0 => (1, 1),
         1 => (1, q),
         _ => (q, q),
-    };
-    let mut all = Vec::new(heap);
-    for x1 in 0..q1 {
-        for x0 in 0..q0 {
-            all.push(Linear { x1, x0 })?;
-        }
     }
-    Ok(all)
 }

@@ -38,9 +38,9 @@ impl<F: Field, M: Method<F>> Calculator<F, M> {
         ensures answer { Sound F.Field M.Method.answers self.old → result ≡ nothing (gives F.Field self.old (Call.Enter target divisor)) }
         ensures left { Left F.Field M.Method.answers (Call.Enter target divisor) self.old self.new }
     {
-        let target = Register::try_from(target)?;
+        let register = Register::try_from(target)?;
         let valid = entered(self.model.field(), self.model.curve(), divisor)?;
-        self.registers.put(target, valid);
+        self.registers.put(register, valid);
         Ok(())
     }
 

@@ -6,8 +6,9 @@ use methods::{Divisor, Model, entered, negative};
 use std::alloc::{AllocError, Global};
 use std::array;
 
-// How often each divisor stands in an account, in the order in which they came; counts above 2⁶⁴ − 1 are not told apart.
-pub type Account = IndexMap<Divisor, u64>;
+// The divisors of an account in the order in which they came, each with how often it stands there; counts above 2⁶⁴ − 1 are not told
+// apart. A list, since accounts are copied more than they are searched: only where two are joined, a map finds equal divisors.
+pub type Account = Vec<(Divisor, u64)>;
 
 // The account of each register.
 #[derive(Debug, Drop)]
@@ -19,7 +20,7 @@ impl Accounts {
     // Sixteen empty accounts.
     pub fn new(heap: Global) -> Accounts {
         Accounts {
-            of: array::from_fn(|_| IndexMap::new(heap)),
+            of: array::from_fn(|_| Vec::new(heap)),
         }
     }
 
@@ -34,7 +35,7 @@ impl Accounts {
             return Ok(());
         }
         let (target, account) = match call {
-            Call::Enter(target, divisor) => (target, IndexMap::from_array(heap, [(divisor, 1)])?),
+            Call::Enter(target, divisor) => (target, vec![in heap; (divisor, 1)]?),
             Call::Add(target, a, b) => (target, self.joined(heap, a, b)?),
             Call::Double(target, a) => (target, self.joined(heap, a, a)?),
             Call::Negate(target, a) => (target, self.negated(heap, model.field(), a)?),
@@ -48,16 +49,16 @@ impl Accounts {
 
     // The accounts of two registers together.
     fn joined(&self, heap: Global, a: u8, b: u8) -> Result<Account, AllocError> {
-        let mut joined: Account = IndexMap::new(heap);
+        let mut joined = IndexMap::new(heap);
         for register in [a, b] {
             if let Some(account) = self.of.get(usize::from(register)) {
-                for (divisor, count) in account {
-                    let total = joined.entry(*divisor)?.or_insert(0);
-                    *total = total.saturating_add(*count);
+                for &(divisor, count) in account {
+                    let total = joined.entry(divisor)?.or_insert(0u64);
+                    *total = total.saturating_add(count);
                 }
             }
         }
-        Ok(joined)
+        joined.into_iter().collect(heap)
     }
 
     // The account of a register with each divisor replaced by its negative. Divisors that differ have negatives that differ.
@@ -67,10 +68,10 @@ impl Accounts {
         field: &F,
         register: u8,
     ) -> Result<Account, AllocError> {
-        let mut negated = IndexMap::new(heap);
+        let mut negated = Vec::new(heap);
         if let Some(account) = self.of.get(usize::from(register)) {
-            for (divisor, count) in account {
-                negated.insert(negative(field, *divisor), *count)?;
+            for &(divisor, count) in account {
+                negated.push((negative(field, divisor), count))?;
             }
         }
         Ok(negated)

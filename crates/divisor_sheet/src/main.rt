@@ -22,10 +22,13 @@ fn answer(rt: &HostRuntime, text: &str) -> io::Result<()> {
     let Some((field, curve, d, e)) = parts(text) else {
         return println!(rt; "refused: a line is FIELD | CURVE | D | E");
     };
-    match (field.parse::<Named>(), Sums::parse(curve, d, e)) {
-        (Ok(field), Some(sums)) => over(rt, field, sums),
-        (Err(fault), _) => println!(rt; "refused: {fault}"),
-        (Ok(_), None) => println!(rt;
+    let field = match field.parse::<Named>() {
+        Ok(field) => field,
+        Err(fault) => return println!(rt; "refused: {fault}"),
+    };
+    match Sums::parse(curve, d, e) {
+        Some(sums) => over(rt, field, sums),
+        None => println!(rt;
             "refused: a curve is five numbers, and a divisor is its degree, u1, u0, v1, v0 and n"
         ),
     }

@@ -16,9 +16,9 @@ impl Sums {
     // A curve and two divisors by their texts.
     pub fn parse(curve: &str, first: &str, second: &str) -> Option<Sums> {
         Some(Sums {
-            curve: notation::curve(curve)?,
             first: notation::divisor(first)?,
             second: notation::divisor(second)?,
+            curve: notation::curve(curve)?,
         })
     }
 }

@@ -1,4 +1,6 @@
 // Fields by their names, and what is done over the field that a name stands for.
+ghost use Rattle.std.specs.Prelude.{◌≡◌, IfOk};
+
 use fields::{Field, FieldRefusal, Nine, Pairs, Residues};
 use std::error::Error;
 use std::num::ParseIntError;
@@ -62,13 +64,29 @@ impl FromStr for Named {
 
     fn from_str(text: &str) -> Result<Named, NotAField> {
         let mut words = text.split_whitespace();
-        match (words.next(), words.next(), words.next(), words.next()) {
-            (Some("residues"), Some(m), None, None) => Ok(Named::Residues(m.parse()?)),
-            (Some("nine"), None, None, None) => Ok(Named::Nine),
-            (Some("pairs"), Some(m), Some(r), None) => Ok(Named::Pairs(m.parse()?, r.parse()?)),
+        // No word is asked for behind the last, so that white space behind it is gone over once.
+        match words.next() {
+            Some("residues") => alone(Named::Residues(number(words.next())?), words.next()),
+            Some("nine") => alone(Named::Nine, words.next()),
+            Some("pairs") => {
+                let (m, r) = (number(words.next())?, number(words.next())?);
+                alone(Named::Pairs(m, r), words.next())
+            }
             _ => Err(NotAField),
         }
     }
+}
+
+// The number that a word stands for.
+fn number<N: FromStr<Err = ParseIntError>>(word: Option<&str>) -> Result<N, NotAField> {
+    Ok(word.ok_or(NotAField)?.parse()?)
+}
+
+// The field that was named, where no word follows.
+fn alone(named: Named, word: Option<&str>) -> Result<Named, NotAField>
+    ensures { IfOk result (λ field. field ≡ named) }
+{
+    word.map_or(Ok(named), |_| Err(NotAField))
 }
 
 // Something to do over any field. A closure has one type of argument, and so cannot take each field in turn.
@@ -88,8 +106,8 @@ pub fn over<T: FieldTask + Drop>(rt: &HostRuntime, named: Named, task: T) -> io:
         Named::Residues(m) => (m, None),
         Named::Pairs(m, r) => (m, Some(r)),
     };
-    let mut table = vec![in rt.alloc(); 0; usize::from(m)]?;
-    let residues = match Residues::filled(m, table.as_mut_slice()) {
+    let mut table = [0; 8191];
+    let residues = match Residues::filled(m, &mut table[..usize::from(m).min(8191)]) {
         Ok(residues) => residues,
         Err(refusal) => return T::refuse(rt, refusal),
     };

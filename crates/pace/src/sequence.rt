@@ -9,8 +9,8 @@ use std::time::{Duration, Instant};
 // How many sums a sequence has where no number is asked for.
 const SHORT: u32 = 1000;
 
-// A curve, the two divisors that a sequence begins with, and how many sums are asked for. They are timed then; where no number is
-// asked for, the sequence is short, and no time is taken.
+// A curve, the two divisors that a sequence begins with, and how many sums are asked for. Their pace is told then; where no
+// number is asked for, the sequence is short, and no pace is told.
 #[derive(Clone, Copy, Debug, PartialEq, Eq)]
 pub struct Sequence {
     pub curve: Curve,

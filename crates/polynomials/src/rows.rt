@@ -22,7 +22,7 @@ pub fn negate<F: Field>(field: &F, a: Polynomial) -> Polynomial
     ensures { Filled 10 result.codes (λ k. (F.Field.meaning field.now).minus (slice_index a.codes k)) }
 {
     Polynomial {
-        codes: a.codes.map(|x| field.negative(x)),
+        codes: array::from_fn(|i| field.negative(a.codes[i])),
     }
 }
 
@@ -31,7 +31,7 @@ pub fn scale<F: Field>(field: &F, x: u32, a: Polynomial) -> Polynomial
     ensures { Filled 10 result.codes (λ k. (F.Field.meaning field.now).times x (slice_index a.codes k)) }
 {
     Polynomial {
-        codes: a.codes.map(|y| field.product(x, y)),
+        codes: array::from_fn(|i| field.product(x, a.codes[i])),
     }
 }
 

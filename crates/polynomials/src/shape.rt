@@ -4,7 +4,7 @@ ghost use Rattle.fields.specs.Arithmetic.{Arithmetic};
 ghost use Rattle.polynomials.specs.Polynomial.{leading, degree, is_zero, same};
 ghost use Rattle.polynomials.specs.Ten.{value};
 
-use crate::codes::{Polynomial, clean};
+use crate::codes::{Polynomial, clean, read};
 use fields::Field;
 
 // How many coefficients there are: the degree and one, and 0 for the polynomial 0.
@@ -34,7 +34,7 @@ pub fn leading<F: Field>(field: &F, a: Polynomial) -> u32
 pub fn coefficient<F: Field>(field: &F, a: Polynomial, k: usize) -> u32
     ensures { result ≡ slice_index (value (F.Field.meaning field.now) a.codes) k }
 {
-    clean(field, a).codes.get(k).copied().unwrap_or(0)
+    a.codes.get(k).map_or(0, |&x| read(field, x))
 }
 
 // Whether a is the polynomial 0.
@@ -49,5 +49,13 @@ pub fn equal<F: Field>(field: &F, a: Polynomial, b: Polynomial) -> bool
     ensures value { (let K : Arithmetic = F.Field.meaning field.now in result ≡ same (value K a.codes) (value K b.codes)) }
     ensures decides { (let K : Arithmetic = F.Field.meaning field.now in Decides result (value K a.codes ≡ value K b.codes)) }
 {
-    clean(field, a).codes == clean(field, b).codes
+    // A loop that ends at the first codes that differ: `==` on the arrays reads all twenty numbers first.
+    let left = clean(field, a);
+    let right = clean(field, b);
+    for i in 0..10 {
+        if left.codes[i] != right.codes[i] {
+            return false;
+        }
+    }
+    true
 }

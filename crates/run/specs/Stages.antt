@@ -1,5 +1,5 @@
 -- What a stage of the code stands for, over the meaning of the field of residues.
-use Rattle.std.specs.Prelude.{◌≡◌, Ok, Err, Result}
+use Rattle.std.specs.Prelude.{◌≡◌}
 use Rattle.fields.specs.Arithmetic.{Arithmetic}
 use Rattle.fields.specs.Nine.{nine}
 use Rattle.fields.specs.Pairs.{pairs}
@@ -9,13 +9,11 @@ use Rattle.fields.specs.declared.pairs.Pairs.{Pairs}
 use Rattle.calculator.specs.declared.calculator.Calculator.{Calculator}
 use Rattle.calculator.specs.Calculators.{held}
 use Rattle.run.specs.declared.field.OneOf.{OneOf}
-use Rattle.run.specs.declared.refusal.Refusal.{Refusal}
 use Rattle.run.specs.declared.reply.Reply.{Reply}
-use Rattle.run.specs.declared.reply.Reply.TheVariants.{Silent, Refused}
 use Rattle.run.specs.declared.stage.Stage.{Stage}
 use Rattle.run.specs.declared.stage.Stage.TheVariants.{Start, Based, Paired, Ready}
 use Rattle.run.specs.Choices.{one_of}
-use Rattle.run.specs.Records.{Command, kind_of}
+use Rattle.run.specs.Records.{Command}
 use Rattle.run.specs.Progress.{Progress, start, based, paired, ready, step}
 
 -- A record was obeyed: how far the run is after it, and what is written, are those of the step.
@@ -46,8 +44,3 @@ module _ {R : Type 0} (field : Ghosts R) where
   progress_at (Based b) = based (base_meaning b)
   progress_at (Paired p) = paired (pairs_meaning p)
   progress_at (Ready c) = progress_of c
-
-  -- A record was obeyed by a result: accepted with nothing written, or refused for a reason, and the stage is that of the result.
-  abbrev pub ObeyedBy : {T M : Type 0} → Progress → Command → Result (Stage T R M) (Stage T R M × Refusal) → Type 0
-  ObeyedBy before c (Ok stage) = Obeyed before c (progress_at stage) Silent
-  ObeyedBy before c (Err (stage, why)) = Obeyed before c (progress_at stage) (Refused (kind_of c) why)

@@ -36,14 +36,13 @@ pub fn answer(sheet: &[u8], output: &mut [u8; 24576]) -> usize
     ensures bytes { output.new ≡ overwritten output.old 0 (program_bytes sheet.now) }
     ensures room { result ≤ 24576 }
 {
-    match run_closed(sheet, output) {
-        Ok(n) => n,
-        Err(why) => {
-            let mut out = Output::new(output);
-            out.write(Reply::Refused(0, why.into()));
-            out.written
-        }
+    // Ahead of the run, which makes its table before it looks at the sizes.
+    if sheet.len() > 4096 {
+        let mut out = Output::new(output);
+        out.write(Reply::Refused(0, SheetRefusal::SheetLength.into()));
+        return out.written;
     }
+    zafindoro_run(sheet, output) as usize
 }
 
 // The run with closed formulas over the polynomial method.

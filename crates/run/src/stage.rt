@@ -1,12 +1,13 @@
 // How far a run has come, and what an arriving record does.
-ghost use Rattle.std.specs.Prelude.{◌≡◌, ◌*◌, ◌≤◌, Err, length};
+ghost use Rattle.std.specs.Prelude.{◌≡◌, ◌*◌, ◌≤◌, length};
 ghost use Rattle.fields.specs.Lawful.{Lawful};
 ghost use Rattle.methods.specs.Methods.{LawfulMethod};
-ghost use Rattle.run.specs.Records.{modulus, square_root, coefficients, call as call_of, least_size, least_size_of_call};
+ghost use Rattle.run.specs.Records.{modulus, square_root, coefficients, call as call_of, kind_of as kind_of_command, least_size, least_size_of_call};
 ghost use Rattle.run.specs.Meanings.{said_by};
 ghost use Rattle.run.specs.Progress.{start, based, Standing, reply_bytes, replied as replied_as};
 ghost use Rattle.run.specs.declared.refusal.Refusal.TheVariants.{OutOfTurn};
-ghost use Rattle.run.specs.Stages.{base_meaning, chosen_meaning, progress_with, progress_of, progress_at, Obeyed, ObeyedBy};
+ghost use Rattle.run.specs.declared.reply.Reply.TheVariants.{Refused};
+ghost use Rattle.run.specs.Stages.{base_meaning, chosen_meaning, progress_with, progress_of, progress_at, Obeyed};
 
 use crate::field::{Base, Chosen, OneOf};
 use crate::record::{Record, curve, kind_of};
@@ -28,70 +29,74 @@ pub(crate) enum Stage<T, R: Field, M> {
 }
 
 impl<T: Ground<R> + Drop, R: Field + Drop, M: Method<Chosen<R>> + Drop> Stage<T, R, M> {
-    // The stage after a record, and what is written for it.
+    // The stage after a record, and what is written for it. Each arm gives both at once, and no Result between: a stage with a calculator
+    // is large, and would be copied twice more for each record that is refused.
+    #[tactic(auto, unfolding(crate::specs::Progress::step))]
     pub(crate) fn obey(self, arriving: Record) -> (Stage<T, R, M>, Reply)
         ensures obeyed { LawfulMethod M.Method.answers → Standing (progress_at R.Field self) → Obeyed (progress_at R.Field self) (said_by arriving.entry) (progress_at R.Field result.0) result.1 }
         ensures fits { length (reply_bytes result.1) ≤ 6 * least_size (said_by arriving.entry) }
     {
-        let kind = arriving.kind();
         // A wildcard for each stage: behind one for all four, the prover has no named fact on the record.
-        let reached = match (self, arriving) {
+        match (self, arriving) {
             (Stage::Start(ground), Record::Residues(m)) => Stage::on_residues(ground, m),
-            (Stage::Start(_), Record::Nine) => Ok(Stage::Based(OneOf::Second(Nine::new()))),
-            (stage @ Stage::Start(_), _) => stage.out_of_turn(),
+            (Stage::Start(_), Record::Nine) => {
+                (Stage::Based(OneOf::Second(Nine::new())), Reply::Silent)
+            }
+            (stage @ Stage::Start(_), _) => stage.out_of_turn(arriving),
             (Stage::Based(base), Record::Pairs(r)) => Stage::on_pairs(base, r),
             (Stage::Based(base), Record::Curve(f)) => Stage::on_curve(OneOf::First(base), curve(f)),
-            (stage @ Stage::Based(_), _) => stage.out_of_turn(),
+            (stage @ Stage::Based(_), _) => stage.out_of_turn(arriving),
             (Stage::Paired(pairs), Record::Curve(f)) => Stage::on_curve(
                 OneOf::Second(pairs),
                 curve(f),
             ),
-            (stage @ Stage::Paired(_), _) => stage.out_of_turn(),
-            (Stage::Ready(calculator), Record::Call(call)) => {
-                return Stage::on_call(calculator, call.into());
-            }
-            (stage @ Stage::Ready(_), _) => stage.out_of_turn(),
-        };
-        match reached {
-            Ok(stage) => (stage, Reply::Silent),
-            Err((stage, why)) => (stage, Reply::Refused(kind, why)),
+            (stage @ Stage::Paired(_), _) => stage.out_of_turn(arriving),
+            (Stage::Ready(calculator), Record::Call(call)) => Stage::on_call(
+                calculator,
+                call.into(),
+            ),
+            (stage @ Stage::Ready(_), _) => stage.out_of_turn(arriving),
         }
     }
 
     // A record that is out of turn.
-    fn out_of_turn(self) -> Result<Stage<T, R, M>, (Stage<T, R, M>, Refusal)>
-        ensures { result ≡ Err (self, OutOfTurn) }
+    fn out_of_turn(self, arriving: Record) -> (Stage<T, R, M>, Reply)
+        ensures stage { result.0 ≡ self }
+        ensures reply { result.1 ≡ Refused (kind_of_command (said_by arriving.entry)) OutOfTurn }
     {
-        Err((self, Refusal::OutOfTurn))
+        (self, Reply::Refused(arriving.kind(), Refusal::OutOfTurn))
     }
 
     // The residues modulo m.
-    fn on_residues(ground: T, m: u16) -> Result<Stage<T, R, M>, (Stage<T, R, M>, Refusal)>
-        ensures { ObeyedBy R.Field start (modulus m) result }
+    fn on_residues(ground: T, m: u16) -> (Stage<T, R, M>, Reply)
+        ensures obeyed { Obeyed start (modulus m) (progress_at R.Field result.0) result.1 }
+        ensures fits { length (reply_bytes result.1) ≤ 3 }
     {
         match ground.residues(m) {
-            Ok(field) => Ok(Stage::Based(OneOf::First(field))),
-            Err((ground, why)) => Err((Stage::Start(ground), why.into())),
+            Ok(field) => (Stage::Based(OneOf::First(field)), Reply::Silent),
+            Err((ground, why)) => (Stage::Start(ground), Reply::Refused(1, why.into())),
         }
     }
 
     // The pairs with t² = r over a base field.
-    fn on_pairs(base: Base<R>, r: u16) -> Result<Stage<T, R, M>, (Stage<T, R, M>, Refusal)>
-        ensures { ObeyedBy R.Field (based (base_meaning R.Field base)) (square_root r) result }
+    fn on_pairs(base: Base<R>, r: u16) -> (Stage<T, R, M>, Reply)
+        ensures obeyed { Obeyed (based (base_meaning R.Field base)) (square_root r) (progress_at R.Field result.0) result.1 }
+        ensures fits { length (reply_bytes result.1) ≤ 3 }
     {
         match Pairs::over(base, u32::from(r)) {
-            Ok(pairs) => Ok(Stage::Paired(pairs)),
-            Err((base, why)) => Err((Stage::Based(base), why.into())),
+            Ok(pairs) => (Stage::Paired(pairs), Reply::Silent),
+            Err((base, why)) => (Stage::Based(base), Reply::Refused(3, why.into())),
         }
     }
 
     // A calculator on a curve over the field.
-    fn on_curve(field: Chosen<R>, curve: Curve) -> Result<Stage<T, R, M>, (Stage<T, R, M>, Refusal)>
-        ensures { Lawful (chosen_meaning R.Field field) → ObeyedBy R.Field (progress_with R.Field field) (coefficients curve) result }
+    fn on_curve(field: Chosen<R>, curve: Curve) -> (Stage<T, R, M>, Reply)
+        ensures obeyed { Lawful (chosen_meaning R.Field field) → Obeyed (progress_with R.Field field) (coefficients curve) (progress_at R.Field result.0) result.1 }
+        ensures fits { length (reply_bytes result.1) ≤ 3 }
     {
         match Model::check(field, Draft::from(curve)) {
-            Ok(model) => Ok(Stage::Ready(Calculator::new(model))),
-            Err((field, _, why)) => Err((Stage::with(field), why.into())),
+            Ok(model) => (Stage::Ready(Calculator::new(model)), Reply::Silent),
+            Err((field, _, why)) => (Stage::with(field), Reply::Refused(4, why.into())),
         }
     }
 

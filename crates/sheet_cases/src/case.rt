@@ -21,6 +21,10 @@ impl Case {
             }
         };
         let digits = digits.trim();
+        // Looked at before memory is taken for the bytes: a line that is no hexadecimal needs none.
+        if !digits.bytes().all(|digit| digit.is_ascii_hexdigit()) {
+            return Ok(None);
+        }
         let mut sheet = vec![in heap; 0; digits.len() / 2]?;
         let decoded = hex::decode_to_slice(digits, sheet.as_mut_slice());
         Ok(decoded.is_ok().then_some(Case { sheet, room }))

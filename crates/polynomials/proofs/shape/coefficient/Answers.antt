@@ -1,9 +1,10 @@
 -- The code that is read at k, and 0 above the ten.
-use Rattle.std.proofs.Common.{◌≡◌, get_or, ◌∙◌, rules}
-use Rattle.polynomials.proofs.Tens.{read_at}
+use Rattle.std.proofs.Common.{◌≡◌, get_or, sym, ◌∙◌, rules}
+use Rattle.polynomials.specs.Ten.{code}
+use Rattle.polynomials.proofs.Tens.{value-at, code_zero}
 use Rattle.polynomials.proofs.shape.coefficient.Goals as goal
 
 pub returns : goal.returns
 returns g c =
-    let e : c.unwrap_or.result ≡ get_or c.clean.result.codes c.args.k 0 = search rules in
-    e ∙ read_at (g.F.Field.meaning c.args.field.now) c.clean.ensures c.args.k
+    let e : c.map_or.result ≡ code (g.F.Field.meaning c.args.field.now) (get_or c.args.a.codes c.args.k 0) = search (rules, code_zero) in
+    e ∙ sym (value-at (g.F.Field.meaning c.args.field.now) c.args.a.codes c.args.k)
